@@ -1,0 +1,110 @@
+-- Counting: how many elements pass a test, and that different elements need as many places.
+use mathlib.Core.Path.{_≡_, refl, sym, ap, _∙_}
+use mathlib.Core.Bool.{Bool, true, false, cond, _||_, not, false≢true, true≢false}
+use mathlib.Core.List.{List, [], _∷_}
+use Prim.Native.Nat.{ℕ, zero, suc, _+_, _≤_, _<_}
+use native.Mathlib.Omega.{arith}
+use lib.Dec.{eqb}
+use lib.ListN.{length, getD, set, replicate}
+use borrow.Author.Tests.{eqb-true, eqb-false, ne-eqb}
+use Rattle.lists.specs.Lists.{any, select, reject, sum, merge}
+use Rattle.lists.specs.All.{All}
+use Rattle.lists.proofs.Bools.{cond-ap, cond-elim, by-cases, or-second, or-right, or-left, or-false-left, or-false-right}
+
+module _ {X : Type 0} (t : X → Bool) where
+  -- How many elements pass the test.
+  abbrev pub count : List X → ℕ
+  count xs = length (select t xs)
+
+  pub count-merge : (before : X → X → Bool) (xs ys : List X) → count (merge before xs ys) ≡ count xs + count ys
+  unfolding select merge
+  count-merge before [] ys = omega arith
+  count-merge before (x ∷ xs) [] = omega arith
+  count-merge before (x ∷ xs) (y ∷ ys) =
+      cond-elim (λ l. count l ≡ count (x ∷ xs) + count (y ∷ ys)) (before x y) (x ∷ merge before xs (y ∷ ys)) (y ∷ merge before (x ∷ xs) ys)
+      (λ g. left (t x) (count-merge before xs (y ∷ ys))) (λ g. right (t y) (count-merge before (x ∷ xs) ys))
+    where
+      left : (b : Bool) → count (merge before xs (y ∷ ys)) ≡ count xs + count (y ∷ ys)
+          → length (cond b (x ∷ select t (merge before xs (y ∷ ys))) (select t (merge before xs (y ∷ ys)))) ≡ length (cond b (x ∷ select t xs) (select t xs)) + count (y ∷ ys)
+      left true h = omega arith
+      left false h = h
+
+      right : (b : Bool) → count (merge before (x ∷ xs) ys) ≡ count (x ∷ xs) + count ys
+          → length (cond b (y ∷ select t (merge before (x ∷ xs) ys)) (select t (merge before (x ∷ xs) ys))) ≡ count (x ∷ xs) + length (cond b (y ∷ select t ys) (select t ys))
+      right true h = omega arith
+      right false h = h
+
+  pub count-most : (xs : List X) → count xs ≤ length xs
+  unfolding select
+  count-most [] = omega arith
+  count-most (x ∷ xs) = cond-elim (λ l. length l ≤ suc (length xs)) (t x) (x ∷ select t xs) (select t xs) (λ g. omega (arith, count-most xs)) (λ g. omega (arith, count-most xs))
+
+  pub count-select : (u : X → Bool) (xs : List X) → count (select u xs) ≤ count xs
+  unfolding select
+  count-select u [] = omega arith
+  count-select u (x ∷ xs) =
+      rw (cond-ap count (u x) (x ∷ select u xs) (select u xs)) (go (u x) (t x) (count-select u xs))
+    where
+      go : (b d : Bool) → count (select u xs) ≤ count xs
+          → cond b (length (cond d (x ∷ select t (select u xs)) (select t (select u xs)))) (count (select u xs)) ≤ length (cond d (x ∷ select t xs) (select t xs))
+      go true true h = omega arith
+      go true false h = h
+      go false true h = omega arith
+      go false false h = h
+
+module _ {X : Type 0} (f : X → ℕ) where
+  -- One element changed.
+  pub sum-set : (xs : List X) (i : ℕ) (x d : X) → i < length xs → sum f (set xs i x) + f (getD xs i d) ≡ sum f xs + f x
+  unfolding sum
+  sum-set [] i x d h = absurd (omega arith)
+  sum-set (y ∷ ys) zero x d h = omega arith
+  sum-set (y ∷ ys) (suc i) x d h = omega (arith, sum-set ys i x d (omega arith))
+
+  pub sum-le : (g : X → ℕ) → ((x : X) → f x ≤ g x) → (xs : List X) → sum f xs ≤ sum g xs
+  unfolding sum
+  sum-le g h [] = omega arith
+  sum-le g h (x ∷ xs) = omega (arith, h x, sum-le g h xs)
+
+  pub sum-zeros : (n : ℕ) (x : X) → f x ≡ 0 → sum f (replicate n x) ≡ 0
+  unfolding sum
+  sum-zeros zero x e = refl
+  sum-zeros (suc n) x e = omega (arith, sum-zeros n x e)
+
+-- No number stands twice in the list.
+abbrev pub Distinct : List ℕ → Type 0
+Distinct [] = Unit {0}
+Distinct (x ∷ xs) = (any (eqb x) xs ≡ false) × Distinct xs
+
+remove-length : (x : ℕ) (ys : List ℕ) → any (eqb x) ys ≡ true → suc (length (reject (eqb x) ys)) ≤ length ys
+unfolding any select
+remove-length x [] h = absurd (false≢true h)
+remove-length x (y ∷ ys) h = go (eqb x y) h (remove-length x ys)
+  where
+    go : (b : Bool) → b || any (eqb x) ys ≡ true → (any (eqb x) ys ≡ true → suc (length (reject (eqb x) ys)) ≤ length ys)
+        → suc (length (cond (not b) (y ∷ reject (eqb x) ys) (reject (eqb x) ys))) ≤ suc (length ys)
+    go true g ih = omega (arith, count-most (λ z. not (eqb x z)) ys)
+    go false g ih = omega (arith, ih g)
+
+remove-other : (x z : ℕ) (ys : List ℕ) → eqb x z ≡ false → any (eqb z) ys ≡ true → any (eqb z) (reject (eqb x) ys) ≡ true
+unfolding any select
+remove-other x z [] n h = absurd (false≢true h)
+remove-other x z (y ∷ ys) n h =
+    by-cases (eqb z y)
+    (λ e. cond-elim (λ l. any (eqb z) l ≡ true) (not (eqb x y)) (y ∷ reject (eqb x) ys) (reject (eqb x) ys)
+    (λ g. or-left (eqb z y) _ e) (λ g. absurd (true≢false (sym (ap not (ne-eqb x y (λ q. eqb-false x z n (q ∙ sym (eqb-true z y e))))) ∙ g))))
+    (λ e. cond-elim (λ l. any (eqb z) l ≡ true) (not (eqb x y)) (y ∷ reject (eqb x) ys) (reject (eqb x) ys)
+    (λ g. or-right (eqb z y) _ (remove-other x z ys n (or-second (eqb z y) _ h e))) (λ g. remove-other x z ys n (or-second (eqb z y) _ h e)))
+
+all-other : (x : ℕ) (xs : List ℕ) → any (eqb x) xs ≡ false → All (λ z. eqb x z ≡ false) xs
+unfolding any
+all-other x [] h = tt
+all-other x (z ∷ xs) h = (or-false-left (eqb x z) _ h, all-other x xs (or-false-right (eqb x z) _ h))
+
+-- Different numbers that all stand in a list are no more than it has places.
+pub pigeonhole : (xs ys : List ℕ) → Distinct xs → All (λ x. any (eqb x) ys ≡ true) xs → length xs ≤ length ys
+pigeonhole [] ys d a = omega arith
+pigeonhole (x ∷ xs) ys d a = omega (arith, remove-length x ys (a .0), pigeonhole xs (reject (eqb x) ys) (d .1) (moved xs (all-other x xs (d .0)) (a .1)))
+  where
+    moved : (zs : List ℕ) → All (λ z. eqb x z ≡ false) zs → All (λ z. any (eqb z) ys ≡ true) zs → All (λ z. any (eqb z) (reject (eqb x) ys) ≡ true) zs
+    moved [] p q = tt
+    moved (z ∷ zs) p q = (remove-other x z ys (p .0) (q .0), moved zs (p .1) (q .1))

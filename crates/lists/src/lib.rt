@@ -1,0 +1,1 @@
+// General laws of lists; no code.

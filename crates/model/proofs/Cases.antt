@@ -1,0 +1,31 @@
+-- The ● cases of document 01, proved as one table.
+use mathlib.Core.Path.{refl, ap}
+use mathlib.Core.List.{[], _∷_}
+use lib.Dec.{lit≤}
+use Rattle.lists.specs.Lists.{any, select, sum, merge, iterate}
+use Rattle.settings.specs.Limits.{power, capacity, limit}
+use Rattle.settings.proofs.Limits.{limit-last}
+use Rattle.model.specs.Records.{fresh}
+use Rattle.model.specs.Merge.{later, merged, settled, joined, freed}
+use Rattle.model.specs.Steps.{single, merge-state, merge-level, merge-all, enter-at, enter, set-points, wipe, act-deepest, crowded, make-room, full, write, no-slot, buffer-due, due, pass-buffer, pass-level, pass, still-due}
+use Rattle.model.specs.Lookup.{find, lookup}
+use Rattle.model.specs.Calls.{prepared, finish, act, step, run, answers}
+use Rattle.model.specs.Cases.{settings, CaseTable}
+
+pub cases : CaseTable
+unfolding any select sum merge iterate power capacity limit fresh later merged settled joined freed single merge-state merge-level merge-all enter-at enter set-points wipe act-deepest crowded make-room full write no-slot buffer-due due pass-buffer pass-level pass still-due find lookup prepared finish act step run answers
+cases = record {
+  limits-3-2-9 = refl;
+  limits-4-4-100 = refl;
+  limits-3-10-10 = refl;
+  limits-6-2-1 = refl;
+  limits-2 = λ t b d h. ap (λ x. x ∷ []) (limit-last (settings 2 t b d) h (lit≤ tt));
+  one-slot = refl;
+  tick-5-merges = refl;
+  tick-4-does-not = refl;
+  widest-range = refl;
+  crossed-range = refl;
+  script = refl;
+  first-lookup = refl;
+  second-lookup = refl;
+}

@@ -1,0 +1,25 @@
+-- The claims of document 01, and the laws that they stand on.
+pub mod Cases
+pub mod NaturalMerge
+pub mod NaturalSteps
+pub mod NaturalCalls
+pub mod Keeps
+pub mod Form
+pub mod Settle
+pub mod StepView
+pub mod Slots
+pub mod Numbers
+pub mod Lookups
+pub mod Deepest
+pub mod LookupSteps
+pub mod Full
+pub mod PlainMaps
+pub mod Marks
+pub mod Sinking
+pub mod MarkedSteps
+pub mod Erasing
+pub mod Deletion
+pub mod Erasure
+pub mod Scans
+pub mod Sample
+pub mod Demands

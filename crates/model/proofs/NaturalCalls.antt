@@ -1,0 +1,177 @@
+-- Every call and every list of calls commutes with a change of tags and tallies, and their answers see neither.
+use mathlib.Core.Path.{_≡_, refl, sym, ap, _∙_}
+use mathlib.Core.Bool.{cond}
+use mathlib.Core.List.{List, [], _∷_, map}
+use Prim.Native.Nat.{ℕ, zero, suc}
+use lib.Dec.{eqb}
+use lib.ListN.{take, drop, List·getD-map, replicate}
+use Rattle.lists.proofs.Bools.{cond-ap}
+use Rattle.settings.specs.declared.Settings.{Settings}
+use Rattle.model.specs.Records.{Entry, value, tombstone, Point, Level, State, empty, fresh}
+use Rattle.model.specs.Merge.{covered}
+use Rattle.model.specs.Steps.{Work, Write, put, delete, delete-range, begin, pass}
+use Rattle.model.specs.Lookup.{Found, absent, reads, find, lookup}
+use Rattle.model.specs.Calls.{Op, written, flush, tick, Call, Outcome, refusing, bad-docket, bad-clock, count-written, prepared, out-of-slots, finish, act, step, run, answers}
+use Rattle.model.specs.PlainMap.{deletes}
+use Rattle.model.specs.Erasure.{call-at, covers-put, accepted, acts-deepest, pass-merges, merges-before, merges-buffer, merged-in, before, merged-after, Erased}
+use Rattle.model.specs.Renaming.{map-entry, map-found, map-point, map-level, map-state, map-work, map-write, map-op, map-call, map-outcome}
+use Rattle.model.proofs.NaturalMerge.{covered-map, held-all-map}
+use Rattle.model.proofs.NaturalSteps.{merge-level-map, merge-all-map, write-map, no-slot-map, pass-map, still-due-map, full-map, crowded-map, buffer-due-map}
+
+module _ {S T A B : Type 0} (g : S → T) (f : A → B) where
+  empties-map : (n : ℕ) → map (map-level g f) (replicate n empty) ≡ replicate n empty
+  empties-map zero = refl
+  empties-map (suc n) = ap (_∷_ empty) (empties-map n)
+
+  pub fresh-map : (settings : Settings) (slots : List S) → fresh settings (map g slots) ≡ map-state g f (fresh settings slots)
+  unfolding fresh
+  fresh-map settings slots = rw (empties-map (settings .deepest))
+
+  bad-docket-map : (op : Op A) → bad-docket (map-op f op) ≡ bad-docket op
+  bad-docket-map (written (put k a)) = refl
+  bad-docket-map (written (delete k)) = refl
+  bad-docket-map (written (delete-range lo hi)) = refl
+  bad-docket-map flush = refl
+  bad-docket-map tick = refl
+
+  count-written-map : (op : Op A) → count-written (map-op f op) ≡ count-written op
+  count-written-map (written w) = refl
+  count-written-map flush = refl
+  count-written-map tick = refl
+
+  prepared-map : (t : ℕ) (op : Op A) (s : State S A) → prepared t (map-op f op) (map-state g f s) ≡ map-work g f (prepared t op s)
+  unfolding prepared
+  prepared-map t (written w) s = write-map g f t w s
+  prepared-map t flush s = merge-level-map g f 0 (begin s)
+  prepared-map t tick s = refl
+
+  out-of-slots-map : (t : ℕ) (op : Op A) (s : State S A) → out-of-slots t (map-op f op) (map-state g f s) ≡ out-of-slots t op s
+  out-of-slots-map t (written w) s = no-slot-map g f t w s
+  out-of-slots-map t flush s = refl
+  out-of-slots-map t tick s = refl
+
+  finish-map : (t : ℕ) (op : Op A) (s : State S A) (w : Work S A) → finish t (map-op f op) (map-state g f s) (map-work g f w) ≡ map-outcome g f (finish t op s w)
+  unfolding finish
+  finish-map t op s w =
+      rw (pass-map g f t w, still-due-map g f t (pass t w .state), held-all-map g f (s .levels), held-all-map g f (pass t w .state .levels), count-written-map op)
+
+  act-map : (t : ℕ) (op : Op A) (s : State S A) → act t (map-op f op) (map-state g f s) ≡ map-outcome g f (act t op s)
+  unfolding act
+  act-map t op s =
+      rw (out-of-slots-map t op s, merge-all-map g f s, prepared-map t op s, finish-map t op s (prepared t op s))
+      (sym (cond-ap (map-outcome g f) (out-of-slots t op s) _ _))
+
+  pub step-map : (s : State S A) (c : Call A) → step (map-state g f s) (map-call f c) ≡ map-outcome g f (step s c)
+  unfolding step
+  step-map s c =
+      rw (bad-docket-map (c .op), act-map (c .clock) (c .op) s)
+      (ap (cond (bad-docket (c .op)) _) (sym (cond-ap (map-outcome g f) (bad-clock (c .clock) (s .clock)) (record { state = s; answer = refusing 5 }) (act (c .clock) (c .op) s)))
+      ∙ sym (cond-ap (map-outcome g f) (bad-docket (c .op)) _ _))
+
+  pub run-map : (s : State S A) (cs : List (Call A)) → run (map-state g f s) (map (map-call f) cs) ≡ map-state g f (run s cs)
+  unfolding run
+  run-map s [] = refl
+  run-map s (c ∷ cs) = ap (λ (r : Outcome T B). run (r .state) (map (map-call f) cs)) (step-map s c) ∙ run-map (step s c .state) cs
+
+  pub answers-map : (s : State S A) (cs : List (Call A)) → answers (map-state g f s) (map (map-call f) cs) ≡ answers s cs
+  unfolding answers
+  answers-map s [] = refl
+  answers-map s (c ∷ cs) = rw (step-map s c, answers-map (step s c .state) cs)
+
+  reads-map : (e : Entry A) (t : ℕ) → reads (map-entry f e) t ≡ map-found f (reads e t)
+  reads-map (value a) t = refl
+  reads-map tombstone t = refl
+
+  find-map : (ps : List (Point S A)) (k : ℕ) (d : Found A) → find (map (map-point g f) ps) k (map-found f d) ≡ map-found f (find ps k d)
+  unfolding find
+  find-map [] k d = refl
+  find-map (p ∷ ps) k d = rw (reads-map (p .entry) (p .stamp), find-map ps k d) (sym (cond-ap (map-found f) (eqb (p .key) k) _ _))
+
+  pub lookup-map : (ls : List (Level S A)) (k : ℕ) → lookup (map (map-level g f) ls) k ≡ map-found f (lookup ls k)
+  unfolding lookup
+  lookup-map [] k = refl
+  lookup-map (l ∷ ls) k =
+      rw (covered-map g f (l .ranges) k, lookup-map ls k, ← (cond-ap (map-found f) (covered (l .ranges) k) absent (lookup ls k)), find-map (l .points) k)
+
+  -- What became of a delete.
+  pub accepted-map : (s : State S A) (c : Call A) → accepted (map-state g f s) (map-call f c) ≡ accepted s c
+  unfolding accepted
+  accepted-map s c = rw (step-map s c)
+
+  acts-deepest-map : (s : State S A) (c : Call A) → acts-deepest (map-state g f s) (map-call f c) ≡ acts-deepest s c
+  unfolding acts-deepest
+  acts-deepest-map s c = go (c .op)
+    where
+      go : (op : Op A) → acts-deepest (map-state g f s) (map-call f (record { clock = c .clock; op = op })) ≡ acts-deepest s (record { clock = c .clock; op = op })
+      go (written w) = full-map g f (c .clock) w s
+      go flush = refl
+      go tick = refl
+
+  pass-merges-map : (s : State S A) (c : Call A) → pass-merges (map-state g f s) (map-call f c) ≡ pass-merges s c
+  unfolding pass-merges
+  pass-merges-map s c = rw (prepared-map (c .clock) (c .op) s, buffer-due-map g f (prepared (c .clock) (c .op) s .state))
+
+  merges-before-map : (t : ℕ) (op : Op A) (s : State S A) → merges-before t (map-op f op) (map-state g f s) ≡ merges-before t op s
+  merges-before-map t (written w) s = crowded-map g f t w s
+  merges-before-map t flush s = refl
+  merges-before-map t tick s = refl
+
+  merges-buffer-map : (s : State S A) (c : Call A) → merges-buffer (map-state g f s) (map-call f c) ≡ merges-buffer s c
+  unfolding merges-buffer
+  merges-buffer-map s c = rw (bad-docket-map (c .op), merges-before-map (c .clock) (c .op) s, pass-merges-map s c)
+
+  merged-in-map : (s : State S A) (cs : List (Call A)) → merged-in (map-state g f s) (map (map-call f) cs) ≡ merged-in s cs
+  unfolding merged-in
+  merged-in-map s [] = refl
+  merged-in-map s (c ∷ cs) = rw (merges-buffer-map s c, step-map s c, merged-in-map (step s c .state) cs)
+
+  take-map : (n : ℕ) (cs : List (Call A)) → take n (map (map-call f) cs) ≡ map (map-call f) (take n cs)
+  take-map zero cs = refl
+  take-map (suc n) [] = refl
+  take-map (suc n) (c ∷ cs) = ap (_∷_ (map-call f c)) (take-map n cs)
+
+  drop-map : (n : ℕ) (cs : List (Call A)) → drop n (map (map-call f) cs) ≡ map (map-call f) (drop n cs)
+  drop-map zero cs = refl
+  drop-map (suc n) [] = refl
+  drop-map (suc n) (c ∷ cs) = drop-map n cs
+
+  call-at-map : (cs : List (Call A)) (i : ℕ) → call-at (map (map-call f) cs) i ≡ map-call f (call-at cs i)
+  call-at-map cs i = List·getD-map (map-call f) cs i (record { clock = 0; op = tick })
+
+  deletes-map : (w : Write A) (k : ℕ) → deletes (map-write f w) k ≡ deletes w k
+  deletes-map (put n a) k = refl
+  deletes-map (delete n) k = refl
+  deletes-map (delete-range lo hi) k = refl
+
+  covers-put-map : (p d : Op A) → covers-put (map-op f p) (map-op f d) ≡ covers-put p d
+  covers-put-map (written (put k a)) (written w) = deletes-map w k
+  covers-put-map (written (put k a)) flush = refl
+  covers-put-map (written (put k a)) tick = refl
+  covers-put-map (written (delete k)) d = refl
+  covers-put-map (written (delete-range lo hi)) d = refl
+  covers-put-map flush d = refl
+  covers-put-map tick d = refl
+
+  before-map : (s : State S A) (cs : List (Call A)) (j : ℕ) → before (map-state g f s) (map (map-call f) cs) j ≡ map-state g f (before s cs j)
+  before-map s cs j = rw (take-map j cs) (run-map s (take j cs))
+
+  merged-after-map : (s : State S A) (cs : List (Call A)) (j : ℕ) → merged-after (map-state g f s) (map (map-call f) cs) j ≡ merged-after s cs j
+  merged-after-map s cs j =
+      let d : Call A = call-at cs j in
+      rw (
+        before-map s cs j,
+        call-at-map cs j,
+        drop-map (suc j) cs,
+        pass-merges-map (before s cs j) d,
+        step-map (before s cs j) d,
+        merged-in-map (step (before s cs j) d .state) (drop (suc j) cs),
+      )
+
+  pub erased-map : (s : State S A) (cs : List (Call A)) (i j : ℕ) → Erased (map-state g f s) (map (map-call f) cs) i j → Erased s cs i j
+  erased-map s cs i j e = record {
+    after = e .after;
+    covers = sym (rw (call-at-map cs i, call-at-map cs j) (covers-put-map (call-at cs i .op) (call-at cs j .op))) ∙ e .covers;
+    accept = sym (rw (before-map s cs j, call-at-map cs j) (accepted-map (before s cs j) (call-at cs j))) ∙ e .accept;
+    fate = sym (rw (merged-after-map s cs j, before-map s cs j, call-at-map cs j, acts-deepest-map (before s cs j) (call-at cs j))) ∙ e .fate;
+    term = rw (call-at-map cs j, run-map s cs) at (e .term);
+  }

@@ -1,0 +1,106 @@
+-- Document 01, "Refused calls": timed calls, their answers, and lists of them.
+use mathlib.Core.Bool.{Bool, false, cond, _||_}
+use mathlib.Core.List.{List, [], _∷_, map}
+use Prim.Native.Nat.{ℕ, _+_, _-_}
+use lib.Dec.{ltb, eqb}
+use Rattle.model.specs.Records.{State, held-all}
+use Rattle.model.specs.Steps.{Work, Write, put, delete, delete-range, begin, merge-level, merge-all, write, no-slot, pass, still-due}
+
+pub data Op (A : Type 0) : Type 0 where
+  written : Write A → Op A
+  flush : Op A
+  tick : Op A
+
+-- "Timed calls are those with a clock".
+pub record Call (A : Type 0) : Type 0 where
+  pub clock : ℕ
+  pub op : Op A
+
+-- "A refusal gives its number and zeros."
+pub record Answer : Type 0 where
+  pub refusal : ℕ
+  pub merges : ℕ
+  pub purged : ℕ
+
+pub record Outcome (S A : Type 0) : Type 0 where
+  pub state : State S A
+  pub answer : Answer
+
+abbrev pub refusing : ℕ → Answer
+refusing n = record { refusal = n; merges = 0; purged = 0 }
+
+module _ {A : Type 0} where
+  -- Refusal 4: "above 65,535, or lo above hi".
+  abbrev pub bad-write : Write A → Bool
+  bad-write (put k a) = ltb 65535 k
+  bad-write (delete k) = ltb 65535 k
+  bad-write (delete-range lo hi) = ltb 65535 hi || ltb hi lo
+
+  abbrev pub bad-docket : Op A → Bool
+  bad-docket (written w) = bad-write w
+  bad-docket flush = false
+  bad-docket tick = false
+
+  -- "written is 1 for a write, 0 otherwise"
+  abbrev pub count-written : Op A → ℕ
+  count-written (written w) = 1
+  count-written flush = 0
+  count-written tick = 0
+
+-- Refusal 5: "0, or before the last accepted clock".
+abbrev pub bad-clock : ℕ → ℕ → Bool
+bad-clock t last = eqb t 0 || ltb t last
+
+module _ {S A : Type 0} where
+  abbrev pub timed : ℕ → State S A → State S A
+  timed t s = record { settings = s .settings; clock = t; free = s .free; levels = s .levels }
+
+  -- What a call has done when its pass begins. "Flush merges the buffer first, full or not. Tick does the pass alone."
+  unfoldable pub prepared : ℕ → Op A → State S A → Work S A
+  prepared t (written w) s = write t w s
+  prepared t flush s = merge-level 0 (begin s)
+  prepared t tick s = begin s
+
+  abbrev pub out-of-slots : ℕ → Op A → State S A → Bool
+  out-of-slots t (written w) s = no-slot t w s
+  out-of-slots t flush s = false
+  out-of-slots t tick s = false
+
+  -- "purged = held before + written − held after"
+  unfoldable pub finish : ℕ → Op A → State S A → Work S A → Outcome S A
+  finish t op s w =
+      let p = pass t w in
+      record {
+        state = timed t (p .state);
+        answer = cond (still-due t (p .state)) (refusing 8)
+            (record {
+              refusal = 0;
+              merges = p .merges;
+              purged = held-all (s .levels) + count-written op - held-all (p .state .levels);
+            });
+      }
+
+  -- Refusal 7: "tables stay merged, clock as before".
+  unfoldable pub act : ℕ → Op A → State S A → Outcome S A
+  act t op s =
+      cond (out-of-slots t op s)
+      (record { state = merge-all s .state; answer = refusing 7 })
+      (finish t op s (prepared t op s))
+
+  -- "The order is the table's".
+  unfoldable pub step : State S A → Call A → Outcome S A
+  step s c =
+      cond (bad-docket (c .op)) (record { state = s; answer = refusing 4 })
+      (cond (bad-clock (c .clock) (s .clock)) (record { state = s; answer = refusing 5 })
+      (act (c .clock) (c .op) s))
+
+  unfoldable pub run : State S A → List (Call A) → State S A
+  run s [] = s
+  run s (c ∷ cs) = run (step s c .state) cs
+
+  unfoldable pub answers : State S A → List (Call A) → List Answer
+  answers s [] = []
+  answers s (c ∷ cs) = let r = step s c in r .answer ∷ answers (r .state) cs
+
+  abbrev pub refusals : State S A → List (Call A) → List ℕ
+  refusals s cs = map (λ (r : Answer). r .refusal) (answers s cs)

@@ -1,0 +1,76 @@
+-- Document 01, "Edges" and "The script program": the ● cases and the script, as one table of equations.
+use mathlib.Core.Path.{_≡_}
+use mathlib.Core.List.{List, [], _∷_, _++_}
+use Prim.Native.Nat.{ℕ, _≤_}
+use Rattle.settings.specs.declared.Settings.{Settings}
+use Rattle.settings.specs.Limits.{limit}
+use Rattle.model.specs.Records.{State, any-slots, fresh}
+use Rattle.model.specs.Steps.{put, delete, delete-range}
+use Rattle.model.specs.Lookup.{absent, found, lookup}
+use Rattle.model.specs.Calls.{written, flush, tick, Call, Answer, refusing, step, run, answers}
+
+abbrev pub settings : ℕ → ℕ → ℕ → ℕ → Settings
+settings l t b d = record { deepest = l; ratio = t; buffer = b; term = d }
+
+abbrev pub store : ℕ → Settings → State (Unit {0}) ℕ
+store n s = fresh s (any-slots n)
+
+abbrev pub accepts : ℕ → ℕ → Answer
+accepts m p = record { refusal = 0; merges = m; purged = p }
+
+-- The lines of the script: P, D, R, F and T.
+abbrev pub P : ℕ → ℕ → ℕ → Call ℕ
+P t k v = record { clock = t; op = written (put k v) }
+
+abbrev pub D : ℕ → ℕ → Call ℕ
+D t k = record { clock = t; op = written (delete k) }
+
+abbrev pub R : ℕ → ℕ → ℕ → Call ℕ
+R t lo hi = record { clock = t; op = written (delete-range lo hi) }
+
+abbrev pub F : ℕ → Call ℕ
+F t = record { clock = t; op = flush }
+
+abbrev pub T : ℕ → Call ℕ
+T t = record { clock = t; op = tick }
+
+-- Settings, then limits from level 1 on.
+abbrev pub limits : Settings → List ℕ → List ℕ
+limits s [] = []
+limits s (i ∷ is) = limit s i ∷ limits s is
+
+-- The store of the script, and its lines up to `T 5`.
+abbrev pub hall : State (Unit {0}) ℕ
+hall = store 6 (settings 3 2 2 9)
+
+abbrev pub morning : List (Call ℕ)
+morning = P 1 7 70 ∷ P 1 8 80 ∷ D 2 7 ∷ P 3 9 90 ∷ []
+
+abbrev pub noon : List (Call ℕ)
+noon = morning ++ P 4 7 71 ∷ []
+
+pub record CaseTable : Type 0 where
+  -- "● L=3 T=2 D=9: limits 3, 9. ● L=4 T=4 D=100: 4, 23, 100. ● L=3 T=10 D=10: 0, 10. ● L=6 T=2 D=1: 0, 0, 0, 0, 1."
+  pub limits-3-2-9 : limits (settings 3 2 1 9) (1 ∷ 2 ∷ []) ≡ 3 ∷ 9 ∷ []
+  pub limits-4-4-100 : limits (settings 4 4 1 100) (1 ∷ 2 ∷ 3 ∷ []) ≡ 4 ∷ 23 ∷ 100 ∷ []
+  pub limits-3-10-10 : limits (settings 3 10 1 10) (1 ∷ 2 ∷ []) ≡ 0 ∷ 10 ∷ []
+  pub limits-6-2-1 : limits (settings 6 2 1 1) (1 ∷ 2 ∷ 3 ∷ 4 ∷ 5 ∷ []) ≡ 0 ∷ 0 ∷ 0 ∷ 0 ∷ 1 ∷ []
+  -- "● L=2: the limit is D", for every T and D.
+  pub limits-2 : (t b d : ℕ) → 2 ≤ t → limits (settings 2 t b d) (1 ∷ []) ≡ d ∷ []
+  -- "● N=1 L=2 T=2 B=1 D=4, then put 5 (tally 50) at 1, put 5 (51) at 2: merges 1, purged 1. ● Put 6 at 3: refused 7.
+  -- ● Delete 5 at 4: purged 2. Put 6 at 5 succeeds."
+  pub one-slot :
+      answers (store 1 (settings 2 2 1 4)) (P 1 5 50 ∷ P 2 5 51 ∷ P 3 6 60 ∷ D 4 5 ∷ P 5 6 60 ∷ [])
+      ≡ accepts 1 0 ∷ accepts 1 1 ∷ refusing 7 ∷ accepts 0 2 ∷ accepts 1 0 ∷ []
+  -- "● T 5 in the script merges (5 − 2 = 3); a tick at 4 would not."
+  pub tick-5-merges : step (run hall noon) (T 5) .answer ≡ accepts 1 0
+  pub tick-4-does-not : step (run hall noon) (T 4) .answer ≡ accepts 0 0
+  -- "● Range delete 0 to 65,535 on a fresh store is accepted; lo 1 hi 0 is 4."
+  pub widest-range : step hall (R 1 0 65535) .answer ≡ accepts 0 0
+  pub crossed-range : step hall (R 1 1 0) .answer ≡ refusing 4
+  -- The script and its output, lookups apart.
+  pub script :
+      answers hall (noon ++ T 5 ∷ T 11 ∷ F 10 ∷ [])
+      ≡ accepts 0 0 ∷ accepts 1 0 ∷ accepts 0 0 ∷ accepts 1 1 ∷ accepts 0 0 ∷ accepts 1 0 ∷ accepts 1 1 ∷ refusing 5 ∷ []
+  pub first-lookup : lookup (run hall morning .levels) 7 ≡ absent
+  pub second-lookup : lookup (run hall (noon ++ T 5 ∷ []) .levels) 7 ≡ found 71 4

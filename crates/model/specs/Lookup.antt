@@ -1,0 +1,85 @@
+-- Document 01, "Steps": lookup and scan, which write nothing.
+use mathlib.Core.Bool.{Bool, true, false, cond, _||_}
+use mathlib.Core.List.{List, [], _∷_}
+use Prim.Native.Nat.{ℕ, zero, suc, _-_}
+use lib.Dec.{ltb, eqb}
+use lib.ListN.{length, take, drop}
+use Rattle.model.specs.Records.{Entry, value, tombstone, Point, Level}
+use Rattle.model.specs.Merge.{covered}
+
+-- "Absent gives tally and stamp 0": the numbers of `absent` are given where a tally is a number.
+pub data Found (A : Type 0) : Type 0 where
+  absent : Found A
+  found : A → ℕ → Found A
+
+-- A row: "a docket, a tally and a stamp".
+pub record Row (A : Type 0) : Type 0 where
+  pub key : ℕ
+  pub tally : A
+  pub stamp : ℕ
+
+pub record Scan (A : Type 0) : Type 0 where
+  pub rows : List (Row A)
+  pub count : ℕ
+  pub more : Bool
+  pub next : ℕ
+
+-- A refusal's number, or what was asked for.
+pub data Reply (X : Type 0) : Type 0 where
+  refused : ℕ → Reply X
+  answered : X → Reply X
+
+module _ {A : Type 0} where
+  abbrev pub reads : Entry A → ℕ → Found A
+  reads (value a) t = found a t
+  reads tombstone t = absent
+
+  -- A live docket is one that a lookup finds.
+  abbrev pub is-found : Found A → Bool
+  is-found absent = false
+  is-found (found a t) = true
+
+  -- The rows of the live dockets among n from k on, ascending.
+  abbrev pub add-row : ℕ → Found A → List (Row A) → List (Row A)
+  add-row k absent rows = rows
+  add-row k (found a t) rows = record { key = k; tally = a; stamp = t } ∷ rows
+
+  unfoldable pub live-from : (ℕ → Found A) → ℕ → ℕ → List (Row A)
+  live-from look k zero = []
+  live-from look k (suc n) = add-row k (look k) (live-from look (suc k) n)
+
+  abbrev pub live : (ℕ → Found A) → ℕ → ℕ → List (Row A)
+  live look lo hi = live-from look lo (suc hi - lo)
+
+  abbrev pub first-key : List (Row A) → ℕ
+  first-key [] = 0
+  first-key (r ∷ rs) = r .key
+
+  -- "It says 'more', with the next live docket, exactly when live dockets outnumber the rows;
+  -- otherwise the next docket is given as 0."
+  unfoldable pub scan : (ℕ → Found A) → ℕ → ℕ → ℕ → Scan A
+  scan look lo hi room =
+      let rows = live look lo hi in
+      record {
+        rows = take room rows;
+        count = length (take room rows);
+        more = ltb room (length rows);
+        next = first-key (drop room rows);
+      }
+
+module _ {S A : Type 0} where
+  -- "The first level with a point of the docket decides; before going deeper, a range over the docket means absent."
+  unfoldable pub find : List (Point S A) → ℕ → Found A → Found A
+  find [] k deeper = deeper
+  find (p ∷ ps) k deeper = cond (eqb (p .key) k) (reads (p .entry) (p .stamp)) (find ps k deeper)
+
+  unfoldable pub lookup : List (Level S A) → ℕ → Found A
+  lookup [] k = absent
+  lookup (l ∷ ls) k = find (l .points) k (cond (covered (l .ranges) k) absent (lookup ls k))
+
+  -- Refusal 4: "above 65,535, or lo above hi".
+  abbrev pub look-up : List (Level S A) → ℕ → Reply (Found A)
+  look-up ls k = cond (ltb 65535 k) (refused 4) (answered (lookup ls k))
+
+  abbrev pub scan-range : List (Level S A) → ℕ → ℕ → ℕ → Reply (Scan A)
+  scan-range ls lo hi room = cond (ltb 65535 hi || ltb hi lo) (refused 4) (answered (scan (lookup ls) lo hi room))

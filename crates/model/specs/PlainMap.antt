@@ -1,0 +1,69 @@
+-- The plain map that a store is held against: rows of live dockets, at most as many as there are slots.
+use mathlib.Core.Bool.{Bool, false, cond, _&&_, not}
+use mathlib.Core.List.{List, [], _∷_}
+use Prim.Native.Nat.{ℕ}
+use lib.Dec.{leb, eqb}
+use lib.ListN.{length}
+use Rattle.lists.specs.Lists.{any, reject}
+use Rattle.model.specs.Steps.{Write, put, delete, delete-range}
+use Rattle.model.specs.Lookup.{Found, absent, found, Row}
+use Rattle.model.specs.Calls.{Op, written, flush, tick, Call, bad-docket, bad-clock}
+
+pub record PlainMap (A : Type 0) : Type 0 where
+  pub clock : ℕ
+  pub rows : List (Row A)
+
+module _ {A : Type 0} where
+  unfoldable pub get : List (Row A) → ℕ → Found A
+  get [] k = absent
+  get (r ∷ rs) k = cond (eqb (r .key) k) (found (r .tally) (r .stamp)) (get rs k)
+
+  abbrev pub has-key : ℕ → Row A → Bool
+  has-key k r = eqb (r .key) k
+
+  -- "A delete covers the dockets from its lo to its hi."
+  abbrev pub deletes : Write A → ℕ → Bool
+  deletes (put k a) n = false
+  deletes (delete k) n = eqb k n
+  deletes (delete-range lo hi) n = leb lo n && leb n hi
+
+  unfoldable pub change : ℕ → Write A → List (Row A) → List (Row A)
+  change t (put k a) rs = record { key = k; tally = a; stamp = t } ∷ reject (has-key k) rs
+  change t (delete k) rs = reject (λ r. deletes (delete k) (r .key)) rs
+  change t (delete-range lo hi) rs = reject (λ r. deletes (delete-range lo hi) (r .key)) rs
+
+  abbrev pub changed : ℕ → Op A → List (Row A) → List (Row A)
+  changed t (written w) rs = change t w rs
+  changed t flush rs = rs
+  changed t tick rs = rs
+
+  -- A put of another docket into a map of as many rows as slots.
+  abbrev pub map-full : ℕ → Op A → List (Row A) → Bool
+  map-full slots (written (put k a)) rs = leb slots (length rs) && not (any (has-key k) rs)
+  map-full slots (written (delete k)) rs = false
+  map-full slots (written (delete-range lo hi)) rs = false
+  map-full slots flush rs = false
+  map-full slots tick rs = false
+
+  unfoldable pub map-refusal : ℕ → PlainMap A → Call A → ℕ
+  map-refusal slots m c =
+      cond (bad-docket (c .op)) 4
+      (cond (bad-clock (c .clock) (m .clock)) 5
+      (cond (map-full slots (c .op) (m .rows)) 7 0))
+
+  unfoldable pub map-step : ℕ → PlainMap A → Call A → PlainMap A
+  map-step slots m c =
+      cond (eqb (map-refusal slots m c) 0)
+      (record { clock = c .clock; rows = changed (c .clock) (c .op) (m .rows) })
+      m
+
+  unfoldable pub map-run : ℕ → PlainMap A → List (Call A) → PlainMap A
+  map-run slots m [] = m
+  map-run slots m (c ∷ cs) = map-run slots (map-step slots m c) cs
+
+  unfoldable pub map-refusals : ℕ → PlainMap A → List (Call A) → List ℕ
+  map-refusals slots m [] = []
+  map-refusals slots m (c ∷ cs) = map-refusal slots m c ∷ map-refusals slots (map-step slots m c) cs
+
+  abbrev pub no-rows : PlainMap A
+  no-rows = record { clock = 0; rows = [] }

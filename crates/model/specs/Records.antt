@@ -1,0 +1,69 @@
+-- Document 01, "The two tables": records, levels and the state of a store.
+-- S is a tag that every record carries, later its slot; A is the type of a tally.
+use mathlib.Core.Bool.{Bool, true, false}
+use mathlib.Core.List.{List, []}
+use Prim.Native.Nat.{ℕ, suc, _+_}
+use lib.ListN.{length, getD, replicate}
+use Rattle.lists.specs.Lists.{sum}
+use Rattle.settings.specs.declared.Settings.{Settings}
+
+-- What a point record says of its docket: a put with its tally (kind 1), or a delete (kind 2).
+pub data Entry (A : Type 0) : Type 0 where
+  value : A → Entry A
+  tombstone : Entry A
+
+-- A point record. Its key is the docket; "the stamp, which is the clock of the write".
+pub record Point (S A : Type 0) : Type 0 where
+  pub slot : S
+  pub key : ℕ
+  pub entry : Entry A
+  pub stamp : ℕ
+
+-- A range record (kind 3): a delete of the dockets from lo to hi, "both included".
+pub record Range (S : Type 0) : Type 0 where
+  pub slot : S
+  pub lo : ℕ
+  pub hi : ℕ
+  pub stamp : ℕ
+
+-- "Owed is the earliest clock of any delete that came into the level, itself or through merges,
+-- since the level was last emptied; 0 if none."
+pub record Level (S A : Type 0) : Type 0 where
+  pub points : List (Point S A)
+  pub ranges : List (Range S)
+  pub owed : ℕ
+
+-- The last accepted clock, the free slots in the order of the free chain, and levels 0 to L.
+pub record State (S A : Type 0) : Type 0 where
+  pub settings : Settings
+  pub clock : ℕ
+  pub free : List S
+  pub levels : List (Level S A)
+
+module _ {A : Type 0} where
+  abbrev pub is-put : Entry A → Bool
+  is-put (value a) = true
+  is-put tombstone = false
+
+module _ {S A : Type 0} where
+  abbrev pub empty : Level S A
+  empty = record { points = []; ranges = []; owed = 0 }
+
+  abbrev pub level : ℕ → State S A → Level S A
+  level i s = getD (s .levels) i empty
+
+  -- "Held is the number of records": of a level, and of all levels.
+  abbrev pub held : Level S A → ℕ
+  held l = length (l .points) + length (l .ranges)
+
+  abbrev pub held-all : List (Level S A) → ℕ
+  held-all ls = sum held ls
+
+  -- A store just made, all of whose slots are free.
+  unfoldable pub fresh : Settings → List S → State S A
+  fresh settings slots =
+      record { settings = settings; clock = 0; free = slots; levels = replicate (suc (settings .deepest)) empty }
+
+-- N free slots, where it does not matter which they are: "N less all records as the free slots".
+abbrev pub any-slots : ℕ → List (Unit {0})
+any-slots n = replicate n tt

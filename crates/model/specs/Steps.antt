@@ -1,0 +1,156 @@
+-- Document 01, "Steps": merges by level, a write, the pass.
+use mathlib.Core.Bool.{Bool, false, cond, _&&_, _||_, not}
+use mathlib.Core.List.{List, [], _∷_, map}
+use Prim.Native.Nat.{ℕ, suc, _-_}
+use lib.Dec.{leb, ltb, eqb}
+use lib.ListN.{set}
+use Rattle.settings.specs.declared.Settings.{Settings}
+use Rattle.settings.specs.Limits.{capacity, limit}
+use Rattle.lists.specs.Lists.{none, select, reject, iterate}
+use Rattle.model.specs.Records.{value, tombstone, Point, Level, State, empty, level, held}
+use Rattle.model.specs.Merge.{names, point-slots, point-goes, gone, release, merged, joined, freed}
+
+-- A state, and the merges that led to it: "those whose upper level had a record".
+pub record Work (S A : Type 0) : Type 0 where
+  pub state : State S A
+  pub merges : ℕ
+
+-- "A write (put, delete, range delete)".
+pub data Write (A : Type 0) : Type 0 where
+  put : ℕ → A → Write A
+  delete : ℕ → Write A
+  delete-range : ℕ → ℕ → Write A
+
+module _ {S A : Type 0} where
+  -- "a level of one record …; owed of that level is the clock for a delete, 0 for a put"
+  unfoldable pub single : S → ℕ → Write A → Level S A
+  single x t (put k a) =
+      record { points = record { slot = x; key = k; entry = value a; stamp = t } ∷ []; ranges = []; owed = 0 }
+  single x t (delete k) =
+      record { points = record { slot = x; key = k; entry = tombstone; stamp = t } ∷ []; ranges = []; owed = t }
+  single x t (delete-range lo hi) =
+      record { points = []; ranges = record { slot = x; lo = lo; hi = hi; stamp = t } ∷ []; owed = t }
+
+module _ {A : Type 0} where
+  -- The same before a slot is chosen, to ask what it makes go.
+  abbrev pub unplaced : ℕ → Write A → Level (Unit {0}) A
+  unplaced t w = single tt t w
+
+module _ {S A : Type 0} where
+  abbrev pub begin : State S A → Work S A
+  begin s = record { state = s; merges = 0 }
+
+  -- "Merge of level i into i+1. … All of row i becomes zero."
+  unfoldable pub merge-state : ℕ → State S A → State S A
+  merge-state i s =
+      let deepest = eqb (suc i) (s .settings .deepest) in
+      let u = level i s in
+      let l = level (suc i) s in
+      record {
+        settings = s .settings;
+        clock = s .clock;
+        free = release (freed deepest u l) (s .free);
+        levels = set (set (s .levels) i empty) (suc i) (joined deepest u l);
+      }
+
+  unfoldable pub merge-level : ℕ → Work S A → Work S A
+  merge-level i w = record {
+    state = merge-state i (w .state);
+    merges = cond (eqb (held (level i (w .state))) 0) (w .merges) (suc (w .merges));
+  }
+
+  -- "levels 0 to L−1 are first merged in order"
+  unfoldable pub merge-all : State S A → Work S A
+  merge-all s = iterate merge-level 0 (s .settings .deepest) (begin s)
+
+  -- The slots that the entry would free in the buffer.
+  abbrev pub displaced : ℕ → Write A → State S A → List S
+  displaced t w s = gone (unplaced t w) (level 0 s)
+
+  -- "enters the buffer as a level of one record merged into it", in the first of the free slots
+  unfoldable pub enter-at : ℕ → Write A → State S A → List S → State S A
+  enter-at t w s [] = s
+  enter-at t w s (x ∷ free) = record {
+    settings = s .settings;
+    clock = s .clock;
+    free = free;
+    levels = set (s .levels) 0 (merged (single x t w) (level 0 s));
+  }
+
+  unfoldable pub enter : ℕ → Write A → State S A → State S A
+  enter t w s = enter-at t w s (release (displaced t w s) (s .free))
+
+  -- "a put changes tally and stamp of its docket, a delete wipes what it covers"
+  abbrev pub overwrite : ℕ → A → ℕ → Point S A → Point S A
+  overwrite k a t p =
+      cond (eqb (p .key) k) (record { slot = p .slot; key = p .key; entry = value a; stamp = t }) p
+
+  unfoldable pub set-points : ℕ → List (Point S A) → State S A → List S → State S A
+  set-points i ps s free = record {
+    settings = s .settings;
+    clock = s .clock;
+    free = free;
+    levels = set (s .levels) i (record { points = ps; ranges = level i s .ranges; owed = level i s .owed });
+  }
+
+  unfoldable pub wipe : Level (Unit {0}) A → ℕ → State S A → State S A
+  wipe u i s =
+      set-points i (reject (point-goes u) (level i s .points)) s
+      (release (point-slots (select (point-goes u) (level i s .points))) (s .free))
+
+  unfoldable pub act-deepest : ℕ → Write A → State S A → State S A
+  act-deepest t (put k a) s =
+      let i = s .settings .deepest in
+      set-points i (map (overwrite k a t) (level i s .points)) s (s .free)
+  act-deepest t (delete k) s = wipe (unplaced t (delete k)) (s .settings .deepest) s
+  act-deepest t (delete-range lo hi) s = wipe (unplaced t (delete-range lo hi)) (s .settings .deepest) s
+
+  -- "If no slot is free and the entry would free none in the buffer, levels 0 to L−1 are first merged in order."
+  unfoldable pub crowded : ℕ → Write A → State S A → Bool
+  crowded t w s = none (s .free) && none (displaced t w s)
+
+  unfoldable pub make-room : ℕ → Write A → State S A → Work S A
+  make-room t w s = cond (crowded t w s) (merge-all s) (begin s)
+
+  -- "If a slot is now free, the write goes on as usual. If not, it acts on level L".
+  unfoldable pub full : ℕ → Write A → State S A → Bool
+  full t w s = crowded t w s && none (merge-all s .state .free)
+
+  unfoldable pub write : ℕ → Write A → State S A → Work S A
+  write t w s =
+      let r = make-room t w s in
+      record { state = cond (full t w s) (act-deepest t w (r .state)) (enter t w (r .state)); merges = r .merges }
+
+  -- Refusal 7: "still no slot after the merging, and level L lacks the docket".
+  abbrev pub lacks : Write A → State S A → Bool
+  lacks (put k a) s = not (names (level (s .settings .deepest) s .points) k)
+  lacks (delete k) s = false
+  lacks (delete-range lo hi) s = false
+
+  unfoldable pub no-slot : ℕ → Write A → State S A → Bool
+  no-slot t w s = full t w s && lacks w (merge-all s .state)
+
+  -- The pass: "if the buffer has B records or more it is merged".
+  unfoldable pub buffer-due : State S A → Bool
+  buffer-due s = leb (s .settings .buffer) (held (level 0 s))
+
+  -- "if it has more than its capacity, or if owed is not 0 and clock − owed is at least its limit"
+  unfoldable pub due : Settings → ℕ → ℕ → Level S A → Bool
+  due settings t i l =
+      ltb (capacity settings i) (held l)
+      || (not (eqb (l .owed) 0) && leb (limit settings i) (t - l .owed))
+
+  unfoldable pub pass-buffer : Work S A → Work S A
+  pass-buffer w = cond (buffer-due (w .state)) (merge-level 0 w) w
+
+  unfoldable pub pass-level : ℕ → ℕ → Work S A → Work S A
+  pass-level t i w = cond (due (w .state .settings) t i (level i (w .state))) (merge-level i w) w
+
+  -- "then for i from 1 to L−1, level i is merged if …"
+  unfoldable pub pass : ℕ → Work S A → Work S A
+  pass t w = iterate (pass-level t) 1 (w .state .settings .deepest - 1) (pass-buffer w)
+
+  -- Refusal 8: "a level from 1 to L−1 still over capacity or limit".
+  unfoldable pub still-due : ℕ → State S A → Bool
+  still-due t s =
+      iterate (λ i b. b || due (s .settings) t i (level i s)) 1 (s .settings .deepest - 1) false

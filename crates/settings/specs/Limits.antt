@@ -1,0 +1,28 @@
+-- Document 01, "Settings and limits": what is allowed, and the capacity and the limit of a level.
+use mathlib.Core.Bool.{Bool, _&&_}
+use Prim.Native.Nat.{ℕ, _-_, _*_, _/_, _^_}
+use lib.Dec.{leb}
+use Rattle.settings.specs.declared.Settings.{Settings}
+
+abbrev pub within : ℕ → ℕ → ℕ → Bool
+within low x high = leb low x && leb x high
+
+-- L is 2 to 6, T is 2 to 10, B is 1 to 64, D is 1 to 4,294,967,295.
+unfoldable pub allowed : Settings → Bool
+allowed s =
+    within 2 (s .deepest) 6
+    && within 2 (s .ratio) 10
+    && within 1 (s .buffer) 64
+    && within 1 (s .term) 4294967295
+
+-- T^i.
+unfoldable pub power : Settings → ℕ → ℕ
+power s i = s .ratio ^ i
+
+-- "Capacity of level i from 1 to L−1: B × T^i records."
+unfoldable pub capacity : Settings → ℕ → ℕ
+capacity s i = s .buffer * power s i
+
+-- "Limit of level i from 1 to L−1, in ticks since the delete: D × (T^i − 1) divided by (T^(L−1) − 1), rounded down."
+unfoldable pub limit : Settings → ℕ → ℕ
+limit s i = s .term * (power s i - 1) / (power s (s .deepest - 1) - 1)
