@@ -4,7 +4,7 @@ use mathlib.Core.Bool.{Bool, true, false, cond, _||_, not, true≢false}
 use mathlib.Core.List.{List, [], _∷_, _++_, map, reverseAux}
 use Prim.Native.Nat.{ℕ, zero, suc, _+_}
 use native.Mathlib.Omega.{arith}
-use lib.ListN.{length, getD, take, set, replicate}
+use lib.ListN.{length, getD, take, drop, set, replicate}
 use Rattle.lists.specs.Lists.{none, any, select, reject}
 use Rattle.lists.specs.All.{All}
 use Rattle.lists.proofs.Bools.{cond-ap, cond-elim, or-false-left, or-false-right, or-false-intro}
@@ -102,6 +102,11 @@ module _ {X : Type 0} where
     all-take zero xs a = tt
     all-take (suc n) [] a = tt
     all-take (suc n) (x ∷ xs) a = (a .0, all-take n xs (a .1))
+
+    pub all-drop : (n : ℕ) (xs : List X) → All P xs → All P (drop n xs)
+    all-drop zero xs a = a
+    all-drop (suc n) [] a = tt
+    all-drop (suc n) (x ∷ xs) a = all-drop n xs (a .1)
 
     pub all-get : (xs : List X) (i : ℕ) (d : X) → All P xs → P d → P (getD xs i d)
     all-get [] i d a p = p

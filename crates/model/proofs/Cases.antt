@@ -1,4 +1,4 @@
--- The ● cases of document 01, proved as one table.
+-- The ● cases of document 01, proved as one table, and the near misses and other edges as a second.
 use mathlib.Core.Path.{refl, ap}
 use mathlib.Core.List.{[], _∷_}
 use lib.Dec.{lit≤}
@@ -8,12 +8,12 @@ use Rattle.settings.proofs.Limits.{limit-last}
 use Rattle.model.specs.Records.{fresh}
 use Rattle.model.specs.Merge.{later, merged, settled, joined, freed}
 use Rattle.model.specs.Steps.{single, merge-state, merge-level, merge-all, enter-at, enter, set-points, wipe, act-deepest, crowded, make-room, full, write, no-slot, buffer-due, due, pass-buffer, pass-level, pass, still-due}
-use Rattle.model.specs.Lookup.{find, lookup}
-use Rattle.model.specs.Calls.{prepared, finish, act, step, run, answers}
-use Rattle.model.specs.Cases.{settings, CaseTable}
+use Rattle.model.specs.Lookup.{live-from, scan, find, lookup}
+use Rattle.model.specs.Calls.{prepared, finish, step, run, answers}
+use Rattle.model.specs.Cases.{settings, CaseTable, NearMissTable}
 
 pub cases : CaseTable
-unfolding any select sum merge iterate power capacity limit fresh later merged settled joined freed single merge-state merge-level merge-all enter-at enter set-points wipe act-deepest crowded make-room full write no-slot buffer-due due pass-buffer pass-level pass still-due find lookup prepared finish act step run answers
+unfolding any select sum merge iterate power capacity limit fresh later merged settled joined freed single merge-state merge-level merge-all enter-at enter set-points wipe act-deepest crowded make-room full write no-slot buffer-due due pass-buffer pass-level pass still-due find lookup prepared finish step run answers
 cases = record {
   limits-3-2-9 = refl;
   limits-4-4-100 = refl;
@@ -28,4 +28,19 @@ cases = record {
   script = refl;
   first-lookup = refl;
   second-lookup = refl;
+}
+
+pub near-misses : NearMissTable
+unfolding any select sum merge iterate power capacity limit fresh later merged settled joined freed single merge-state merge-level merge-all enter-at enter set-points wipe act-deepest crowded make-room full write no-slot buffer-due due pass-buffer pass-level pass still-due live-from scan find lookup prepared finish step run answers
+near-misses = record {
+  owed-outlives-the-delete = refl;
+  term-does-not-restart = refl;
+  range-wipes-first = refl;
+  range-is-obeyed-above = refl;
+  not-full-early = refl;
+  one-pass-many-merges = refl;
+  equal-clock = refl;
+  scan-no-rows = refl;
+  scan-one-row = refl;
+  scan-all = refl;
 }

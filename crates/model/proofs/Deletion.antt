@@ -14,10 +14,9 @@ use Rattle.lists.proofs.Bools.{cond-elim, by-cases, or-false-left, or-second}
 use Rattle.lists.proofs.Tests.{all-append, all-replicate, all-get}
 use Rattle.model.specs.Records.{Level, State, empty, level}
 use Rattle.model.specs.Merge.{merged, settled}
-use Rattle.model.specs.Steps.{Work, Write, put, delete, delete-range, single, unplaced, merge-all, crowded, make-room, full, write}
+use Rattle.model.specs.Steps.{deletes, Work, Write, put, delete, delete-range, single, unplaced, merge-all, crowded, make-room, full, write}
 use Rattle.model.specs.Calls.{written, Call, prepared, step, run}
-use Rattle.model.specs.PlainMap.{deletes}
-use Rattle.model.specs.Erasure.{accepted, acts-deepest, pass-merges, merged-in}
+use Rattle.model.specs.Erasure.{accepted, pass-merges, merged-in}
 use Rattle.model.proofs.Keeps.{Kept, merge-all-keeps, pass-keeps, has-room}
 use Rattle.model.proofs.StepView.{worked, accepted-outcome, Accepted, accepted-ends}
 use Rattle.model.proofs.Deepest.{only-set, Drained, merge-all-drained}
@@ -130,16 +129,12 @@ module _ {S A : Type 0} (k : ℕ) (s : State S (Mark A)) (c : Call (Mark A)) (w 
   unfolding prepared
   prepared-write = rw is
 
-  acts-write : acts-deepest s c ≡ full (c .clock) w s
-  unfolding acts-deepest
-  acts-write = rw is
-
-  pub delete-fated : (cs : List (Call (Mark A))) → All Quiet cs → acts-deepest s c || (pass-merges s c || merged-in (step s c .state) cs) ≡ true
+  pub delete-fated : (cs : List (Call (Mark A))) → All Quiet cs → full (c .clock) w s || (pass-merges s c || merged-in (step s c .state) cs) ≡ true
       → Fated k (c .clock) (run (step s c .state) cs)
   delete-fated cs q h =
       by-cases (full (c .clock) w s)
       (λ a. run-fated k (c .clock) (step s c .state) cs q (clean-fated k (c .clock) _ (rw (ends .ends) (step-no-mark k (c .clock) s c quiet (rw prepared-write (direct-clean a))))))
-      (λ a. later a (or-second (acts-deepest s c) _ h (acts-write ∙ a)))
+      (λ a. later a (or-second (full (c .clock) w s) _ h a))
     where
       sunk : Sinking k (c .clock) 0 (prepared (c .clock) (c .op) s .state) → Sinking k (c .clock) 0 (accepted-outcome s c .state)
       sunk p = unfold accepted-outcome worked in

@@ -12,7 +12,7 @@ use Rattle.settings.specs.declared.Settings.{Settings}
 use Rattle.settings.specs.Limits.{allowed}
 use Rattle.model.specs.Records.{Level, State, empty, level, held-all, fresh}
 use Rattle.model.specs.Merge.{settled}
-use Rattle.model.specs.Steps.{put, delete, delete-range, merge-all, due, pass}
+use Rattle.model.specs.Steps.{put, delete, delete-range, merge-all, no-slot, due, pass}
 use Rattle.model.specs.Lookup.{scan, lookup}
 use Rattle.model.specs.Live.{SlotsLive}
 use Rattle.model.specs.Calls.{written, Call, Outcome, refusing, bad-docket, bad-clock, count-written, prepared, out-of-slots, step, run, answers, refusals}
@@ -24,7 +24,7 @@ use Rattle.model.proofs.StepView.{worked, accepted-outcome, StepView, r
 use Rattle.model.proofs.Settle.{pass-leaves-none-due}
 use Rattle.model.proofs.Numbers.{purged-sum, most-merges, merges-most, prepared-settings}
 use Rattle.model.proofs.Deepest.{Drained, merge-all-drained}
-use Rattle.model.proofs.Full.{full-live, live-full, delete-has-slot, delete-range-has-slot}
+use Rattle.model.proofs.Full.{full-live, live-full}
 use Rattle.model.proofs.PlainMaps.{Alike, run-alike, refusals-alike, fresh-alike, merge-all-clock}
 use Rattle.model.proofs.Scans.{scan-same}
 use Rattle.model.proofs.NaturalCalls.{run-map, answers-map}
@@ -116,10 +116,12 @@ module _ {S A : Type 0} (settings : Settings) (ok : allowed settings ≡ true) (
 
   -- "A delete is never refused for lack of a slot".
   pub delete-never-full : (t k : ℕ) → out-of-slots t (written (delete k)) (run (fresh settings slots) cs) ≡ false
-  delete-never-full t k = delete-has-slot t k made
+  unfolding no-slot
+  delete-never-full t k = refl
 
   pub delete-range-never-full : (t lo hi : ℕ) → out-of-slots t (written (delete-range lo hi)) (run (fresh settings slots) cs) ≡ false
-  delete-range-never-full t lo hi = delete-range-has-slot t lo hi made
+  unfolding no-slot
+  delete-range-never-full t lo hi = refl
 
   -- Refusal 7: "tables stay merged, clock as before".
   pub refused-7-merges : (c : Call A) → step (run (fresh settings slots) cs) c .answer .refusal ≡ 7
@@ -165,8 +167,9 @@ module _ {S A : Type 0} (settings : Settings) (ok : allowed settings ≡ true) (
   free-and-held = whole .all
 
   -- DEMAND 3: "had that put carried any other tally", the state would be the same.
-  pub erased-leaves-nothing : (i j : ℕ) (v : A) → Erased (fresh settings slots) cs i j → run (fresh settings slots) (retally i v cs) ≡ run (fresh settings slots) cs
-  erased-leaves-nothing i j v e = erasure settings slots cs i j v ok e
+  pub erased-leaves-nothing : (i j k : ℕ) (a v : A) → Erased (fresh settings slots) cs i j k a
+      → run (fresh settings slots) (retally i k v cs) ≡ run (fresh settings slots) cs
+  erased-leaves-nothing i j k a v e = erasure settings slots cs i j k a v ok e
 
 -- No decision hangs on a tally, nor on a slot: a change of them commutes with every list, whose answers stay.
 module _ {S T A B : Type 0} (g : S → T) (f : A → B) (s : State S A) (cs : List (Call A)) where

@@ -8,15 +8,14 @@ use lib.Dec.{eqb}
 use lib.ListN.{length, getD, set, length-set}
 use lib.Seq.{getD-set-other}
 use borrow.Author.Tests.{eqb-true, eq-eqb, not-true}
-use Rattle.settings.specs.declared.Settings.{Settings}
 use Rattle.lists.specs.Lists.{none, any, select, reject, sum}
 use Rattle.lists.specs.All.{All, Ascending}
-use Rattle.lists.proofs.Bools.{cond-same, by-cases, and-left, and-right, and-intro, and-false-right, or-left, or-right, or-false, bool-ext}
+use Rattle.lists.proofs.Bools.{cond-same, by-cases, and-left, and-right, and-intro, or-left, or-right, or-false, bool-ext}
 use Rattle.lists.proofs.Tests.{all-weaken, all-selected, any-same, select-none, select-never}
 use Rattle.lists.proofs.Counting.{count, count-merge, count-most, count-select, sum-set, sum-le}
 use Rattle.model.specs.Records.{Entry, value, tombstone, Point, Level, State, is-put, empty, level, held, held-all}
 use Rattle.model.specs.Merge.{covered, names, point-before, range-goes, point-goes, merged, settled, joined}
-use Rattle.model.specs.Steps.{put, delete, delete-range, single, unplaced, merge-state, merge-all, displaced, crowded, full, lacks, no-slot}
+use Rattle.model.specs.Steps.{put, single, unplaced, merge-state, merge-all, displaced, crowded, full, no-slot}
 use Rattle.model.specs.Lookup.{Found, absent, reads, is-found, find, lookup}
 use Rattle.model.specs.Live.{all-points, SlotsLive}
 use Rattle.model.specs.Calls.{tick}
@@ -154,22 +153,13 @@ module _ {S A : Type 0} where
   unfolding settled
   held-settled-points l = omega arith
 
-  -- A delete is never refused for lack of a slot.
-  pub delete-has-slot : (t k : ℕ) (s : State S A) → no-slot t (delete k) s ≡ false
-  unfolding no-slot
-  delete-has-slot t k s = and-false-right (full t (delete k) s) false refl
-
-  pub delete-range-has-slot : (t lo hi : ℕ) (s : State S A) → no-slot t (delete-range lo hi) s ≡ false
-  unfolding no-slot
-  delete-range-has-slot t lo hi s = and-false-right (full t (delete-range lo hi) s) false refl
-
 -- The state s with all levels merged: its records are the points of one settled level.
 pub record Bottom {S A : Type 0} (n : ℕ) (s : State S A) : Type 0 where
   pub points : List (Point S A)
   pub puts : AllPuts points
   pub ordered : Ascending point-before points
   pub are : all-points (merge-all s .state .levels) ≡ points
-  pub at-deepest : level (merge-all s .state .settings .deepest) (merge-all s .state) .points ≡ points
+  pub at-deepest : level (s .settings .deepest) (merge-all s .state) .points ≡ points
   pub finds : (k : ℕ) → lookup (merge-all s .state .levels) k ≡ find points k absent
   pub counted : length (merge-all s .state .free) + length points ≡ n
   pub kept-puts : length points ≤ sum puts-of (s .levels)
@@ -182,12 +172,11 @@ module _ {S A : Type 0} (n : ℕ) (s : State S A) (w : Whole n s) where
       let d : Drained s m = merge-all-drained s (w .formed) in
       let i : ℕ = s .settings .deepest in
       let l : Level S A = settled (d .source) in
-      let same : m .settings .deepest ≡ i = ap (λ (x : Settings). x .deepest) (d .same) in
-      let here : level (m .settings .deepest) m ≡ l = ap (λ j. level j m) same ∙ ap (λ ls. getD ls i empty) (d .levels) ∙ only-level i l in
+      let here : level i m ≡ l = ap (λ ls. getD ls i empty) (d .levels) ∙ only-level i l in
       record {
         points = l .points;
         puts = settled-puts (d .source);
-        ordered = rw here at (level-ordered (m .settings .deepest) m (d .formed));
+        ordered = rw here at (level-ordered i m (d .formed));
         are = ap all-points (d .levels) ∙ points-only i l;
         at-deepest = ap (λ (x : Level S A). x .points) here;
         finds = λ k. ap (λ ls. lookup ls k) (d .levels) ∙ lookup-only i l k ∙ ap (find (l .points) k) (cond-same (covered (l .ranges) k) absent);
@@ -211,9 +200,11 @@ module _ {S A : Type 0} (n : ℕ) (s : State S A) (w : Whole n s) where
   pub full-live : (t k : ℕ) (a : A) → no-slot t (put k a) s ≡ true → SlotsLive n k (merge-all s .state)
   unfolding no-slot full
   full-live t k a h =
-      let f : full t (put k a) s ≡ true = and-left (full t (put k a) s) (lacks (put k a) (merge-all s .state)) h in
+      let m : State S A = merge-all s .state in
+      let lacks : Bool = not (names (level (s .settings .deepest) m .points) k) in
+      let f : full t (put k a) s ≡ true = and-left (full t (put k a) s) lacks h in
       let e : length (merge-all s .state .free) ≡ 0 = length-of-none (merge-all s .state .free) (and-right (crowded t (put k a) s) (none (merge-all s .state .free)) f) in
-      let lacking : names (b .points) k ≡ false = rw (b .at-deepest) at (not-true (names (level (merge-all s .state .settings .deepest) (merge-all s .state) .points) k) (and-right (full t (put k a) s) (lacks (put k a) (merge-all s .state)) h)) in
+      let lacking : names (b .points) k ≡ false = rw (b .at-deepest) at (not-true (names (level (s .settings .deepest) (merge-all s .state) .points) k) (and-right (full t (put k a) s) lacks h)) in
       live-slots k (omega (arith, b .counted)) lacking
 
   -- And then only: no slot is free, the entry would free none, and level L lacks the docket.
@@ -253,7 +244,7 @@ module _ {S A : Type 0} (n : ℕ) (s : State S A) (w : Whole n s) where
     unfolding no-slot full crowded
     live-full t a =
         let m : State S A = merge-all s .state in
-        and-intro (full t (put k a) s) (lacks (put k a) m)
+        and-intro (full t (put k a) s) (not (names (level (s .settings .deepest) m .points) k))
         (and-intro (crowded t (put k a) s) (none (m .free)) (and-intro (none (s .free)) (none (displaced t (put k a) s)) none-free (displaced-none t a))
         (none-of-length (m .free) (omega (arith, b .counted, all-held))))
         (rw (b .at-deepest) (ap not unnamed))

@@ -11,8 +11,8 @@ use Rattle.lists.proofs.Bools.{cond-elim, by-cases, and-intro, and-second-false
 use Rattle.lists.proofs.Loops.{iterate-keeps}
 use Rattle.model.specs.Records.{State, level}
 use Rattle.model.specs.Merge.{release}
-use Rattle.model.specs.Steps.{Work, Write, put, delete, delete-range, begin, merge-state, merge-level, merge-all, displaced, enter-at, enter, set-points, wipe, act-deepest, crowded, make-room, full, write, buffer-due, due, pass-buffer, pass-level, pass}
-use Rattle.model.specs.Calls.{Op, written, flush, tick, Call, Outcome, refusing, bad-docket, bad-clock, timed, prepared, out-of-slots, finish, act, step, run}
+use Rattle.model.specs.Steps.{Work, Write, put, delete, delete-range, begin, merge-state, merge-level, merge-all, displaced, enter-at, enter, set-points, wipe, act-deepest, crowded, make-room, full, write, buffer-due, due, pass-buffer, pass-level, pass, still-due}
+use Rattle.model.specs.Calls.{Op, written, flush, tick, Call, Outcome, bad-docket, bad-clock, timed, refused, prepared, out-of-slots, finish, step, run}
 
 none-release : {X : Type 0} (xs ys : List X) → none (release xs ys) ≡ true → (none xs ≡ true) × (none ys ≡ true)
 none-release [] ys h = (refl, h)
@@ -117,21 +117,17 @@ module _ {S A : Type 0} (P : State S A → Type 0) (c : Call A) (k : Kept P c) w
 
   finish-kept : (s : State S A) (w : Work S A) → P (w .state) → P (finish (c .clock) (c .op) s w .state)
   unfolding finish
-  finish-kept s w p = k .timing (pass (c .clock) w .state) (pass-keeps P (k .deep) (k .merging) (c .clock) w p .0)
-
-  act-kept : (s : State S A) → P s → P (act (c .clock) (c .op) s .state)
-  unfolding act
-  act-kept s p =
-      cond-elim (λ (r : Outcome S A). P (r .state)) (out-of-slots (c .clock) (c .op) s) (record { state = merge-all s .state; answer = refusing 7 })
-      (finish (c .clock) (c .op) s (prepared (c .clock) (c .op) s))
-      (λ g. merge-all-kept s p) (λ g. finish-kept s (prepared (c .clock) (c .op) s) (prepared-kept s p))
+  finish-kept s w p =
+      let q : P (timed (c .clock) (pass (c .clock) w .state)) = k .timing (pass (c .clock) w .state) (pass-keeps P (k .deep) (k .merging) (c .clock) w p .0) in
+      cond-elim (λ (r : Outcome S A). P (r .state)) (still-due (c .clock) (pass (c .clock) w .state)) _ _ (λ g. q) (λ g. q)
 
   pub step-keeps : (s : State S A) → P s → P (step s c .state)
   unfolding step
   step-keeps s p =
-      cond-elim (λ (r : Outcome S A). P (r .state)) (bad-docket (c .op)) (record { state = s; answer = refusing 4 }) _ (λ g. p)
-      (λ g. cond-elim (λ (r : Outcome S A). P (r .state)) (bad-clock (c .clock) (s .clock)) (record { state = s; answer = refusing 5 }) (act (c .clock) (c .op) s)
-      (λ b. p) (λ b. act-kept s p))
+      cond-elim (λ (r : Outcome S A). P (r .state)) (bad-docket (c .op)) (refused 4 s) _ (λ g. p)
+      (λ g. cond-elim (λ (r : Outcome S A). P (r .state)) (bad-clock (c .clock) (s .clock)) (refused 5 s) _ (λ b. p)
+      (λ b. cond-elim (λ (r : Outcome S A). P (r .state)) (out-of-slots (c .clock) (c .op) s) (refused 7 (merge-all s .state)) _ (λ h. merge-all-kept s p)
+      (λ h. finish-kept s (prepared (c .clock) (c .op) s) (prepared-kept s p))))
 
 module _ {S A : Type 0} (P : State S A → Type 0) where
   pub run-keeps : (s : State S A) (cs : List (Call A)) → All (Kept P) cs → P s → P (run s cs)

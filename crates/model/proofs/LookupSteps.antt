@@ -1,21 +1,21 @@
 -- What each part of a call does to lookups: merges and the pass nothing, a write what it says.
 use mathlib.Core.Path.{_≡_, refl, sym, ap, _∙_}
-use mathlib.Core.Bool.{Bool, true, false, cond, _&&_, _||_, not, false≢true, true≢false}
+use mathlib.Core.Bool.{Bool, true, false, cond, _||_, not, false≢true, true≢false}
 use mathlib.Core.List.{List, [], _∷_, map}
 use Prim.Native.Nat.{ℕ, suc, _<_}
 use native.Mathlib.Omega.{arith}
-use lib.Dec.{leb, eqb}
+use lib.Dec.{eqb}
 use lib.ListN.{length, getD, set}
 use borrow.Author.Tests.{eqb-true, eqb-false, eq-eqb, ne-eqb, not-false}
 use Rattle.settings.specs.declared.Settings.{Settings}
+use Rattle.settings.specs.Limits.{within}
 use Rattle.lists.specs.Lists.{none, any}
 use Rattle.lists.proofs.Bools.{cond-elim, cond-same, by-cases, and-left, and-second-false, or-false}
 use Rattle.model.specs.Records.{Point, Level, State, empty, level}
 use Rattle.model.specs.Merge.{covered, names, release, merged, settled}
-use Rattle.model.specs.Steps.{Work, Write, put, delete, delete-range, single, unplaced, begin, merge-state, merge-level, merge-all, displaced, enter-at, enter, overwrite, set-points, wipe, act-deepest, crowded, make-room, full, write, lacks, no-slot, pass}
+use Rattle.model.specs.Steps.{deletes, Work, Write, put, delete, delete-range, single, unplaced, begin, merge-state, merge-level, merge-all, displaced, enter-at, enter, overwrite, set-points, wipe, act-deepest, crowded, make-room, full, write, no-slot, pass}
 use Rattle.model.specs.Lookup.{Found, absent, found, find, lookup}
 use Rattle.model.specs.Calls.{Op, written, flush, tick, prepared, out-of-slots}
-use Rattle.model.specs.PlainMap.{deletes}
 use Rattle.model.proofs.Keeps.{merge-all-keeps, pass-keeps, has-room}
 use Rattle.model.proofs.Form.{Formed, formed-kept}
 use Rattle.model.proofs.Lookups.{find-select, lookup-merged, lookup-merge}
@@ -74,7 +74,7 @@ module _ {S A : Type 0} where
   unfolding lookup single find any
   lookup-single x t (put n a) ls k = refl
   lookup-single x t (delete n) ls k = refl
-  lookup-single x t (delete-range lo hi) ls k = ap (λ b. cond b absent (lookup ls k)) (or-false (leb lo k && leb k hi))
+  lookup-single x t (delete-range lo hi) ls k = ap (λ b. cond b absent (lookup ls k)) (or-false (within lo k hi))
 
   enter-at-lookup : (t : ℕ) (w : Write A) (s : State S A) (free : List S) (k : ℕ) → none free ≡ false → 0 < length (s .levels)
       → lookup (enter-at t w s free .levels) k ≡ after t w (lookup (s .levels)) k
@@ -111,6 +111,12 @@ module _ {S A : Type 0} where
       go true q ih = rw (q, ne-eqb (p .key) k (λ r. eqb-false n k e (sym (eqb-true (p .key) n q) ∙ r))) ih
       go false q ih = rw (q, ih)
 
+  -- The level has the docket of a put.
+  abbrev Holds : Level S A → Write A → Type 0
+  Holds l (put j a) = names (l .points) j ≡ true
+  Holds l (delete j) = Unit {0}
+  Holds l (delete-range lo hi) = Unit {0}
+
   -- Only level L holds records, and no ranges: what an action on it does.
   module _ (s : State S A) (n : ℕ) (l : Level S A) (deep : s .settings .deepest ≡ n) (levels : s .levels ≡ only n l) (bare : l .ranges ≡ []) where
     at-deepest : level (s .settings .deepest) s ≡ l
@@ -133,19 +139,19 @@ module _ {S A : Type 0} where
     lookup-wipe u k =
         lookup-set _ _ k ∙ rw (at-deepest, lookup-before k) (find-select (λ j. not (names (u .points) j || covered (u .ranges) j)) (l .points) k absent)
 
-    pub act-lookup : (t : ℕ) (w : Write A) (k : ℕ) → lacks w s ≡ false → lookup (act-deepest t w s .levels) k ≡ after t w (lookup (s .levels)) k
+    pub act-lookup : (t : ℕ) (w : Write A) (k : ℕ) → Holds l w → lookup (act-deepest t w s .levels) k ≡ after t w (lookup (s .levels)) k
     unfolding act-deepest single any
     act-lookup t (put j a) k h =
         lookup-set _ (s .free) k ∙ rw (at-deepest, lookup-before k)
         (by-cases (eqb j k)
-        (λ e. find-overwritten j a t (l .points) k absent (eqb-true j k e) (rw at-deepest at (not-false (names (level (s .settings .deepest) s .points) j) h)) ∙ rw e)
+        (λ e. find-overwritten j a t (l .points) k absent (eqb-true j k e) h ∙ rw e)
         (λ e. find-other j a t (l .points) k absent e ∙ rw e))
     act-lookup t (delete j) k h = lookup-wipe (unplaced t (delete j)) k ∙ flip (eqb j k) (lookup (s .levels) k)
       where
         flip : (b : Bool) (v : Found A) → cond (not (b || false || false)) v absent ≡ cond b absent v
         flip true v = refl
         flip false v = refl
-    act-lookup t (delete-range lo hi) k h = lookup-wipe (unplaced t (delete-range lo hi)) k ∙ flip (leb lo k && leb k hi) (lookup (s .levels) k)
+    act-lookup t (delete-range lo hi) k h = lookup-wipe (unplaced t (delete-range lo hi)) k ∙ flip (within lo k hi) (lookup (s .levels) k)
       where
         flip : (b : Bool) (v : Found A) → cond (not (b || false)) v absent ≡ cond b absent v
         flip true v = refl
@@ -166,9 +172,20 @@ module _ {S A : Type 0} where
   unfolding settled
   settled-bare l = refl
 
+  -- Where no slot is left and the write is not refused, level L has the put's docket.
+  has-docket : (t : ℕ) (w : Write A) (s : State S A) (f : Formed s) → no-slot t w s ≡ false → full t w s ≡ true → Holds (settled (merge-all-drained s f .source)) w
+  unfolding no-slot
+  has-docket t (put k a) s f h g =
+      let n : ℕ = s .settings .deepest in
+      let d : Drained s (merge-all s .state) = merge-all-drained s f in
+      ap (λ (l : Level S A). names (l .points) k) (sym (ap (λ ls. getD ls n empty) (d .levels) ∙ only-level n (settled (d .source))))
+      ∙ not-false (names (level n (merge-all s .state) .points) k) (and-second-false (full t (put k a) s) _ h g)
+  has-docket t (delete k) s f h g = tt
+  has-docket t (delete-range lo hi) s f h g = tt
+
   pub write-lookup : (t : ℕ) (w : Write A) (s : State S A) (k : ℕ) → Formed s → no-slot t w s ≡ false
       → lookup (write t w s .state .levels) k ≡ after t w (lookup (s .levels)) k
-  unfolding write no-slot
+  unfolding write
   write-lookup t w s k f h =
       cond-elim (λ (x : State S A). lookup (x .levels) k ≡ after t w (lookup (s .levels)) k) (full t w s) (act-deepest t w r) (enter t w r) acting entering
     where
@@ -182,9 +199,8 @@ module _ {S A : Type 0} where
       acting g =
           let d : Drained s (merge-all s .state) = merge-all-drained s f in
           let e : r ≡ merge-all s .state = ap (λ (x : Work S A). x .state) (full-room t w s g) in
-          let here : lacks w r ≡ false = ap (lacks w) e ∙ and-second-false (full t w s) (lacks w (merge-all s .state)) h g in
           act-lookup r (s .settings .deepest) (settled (d .source)) (ap (λ (x : State S A). x .settings .deepest) e ∙ ap (λ (x : Settings). x .deepest) (d .same))
-          (ap (λ (x : State S A). x .levels) e ∙ d .levels) (settled-bare (d .source)) t w k here
+          (ap (λ (x : State S A). x .levels) e ∙ d .levels) (settled-bare (d .source)) t w k (has-docket t w s f h g)
           ∙ after-same t w (lookup (r .levels)) (lookup (s .levels)) k same
 
       entering : full t w s ≡ false → lookup (enter t w r .levels) k ≡ after t w (lookup (s .levels)) k

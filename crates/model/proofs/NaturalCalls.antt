@@ -9,14 +9,16 @@ use Rattle.lists.proofs.Bools.{cond-ap}
 use Rattle.settings.specs.declared.Settings.{Settings}
 use Rattle.model.specs.Records.{Entry, value, tombstone, Point, Level, State, empty, fresh}
 use Rattle.model.specs.Merge.{covered}
-use Rattle.model.specs.Steps.{Work, Write, put, delete, delete-range, begin, pass}
+use Rattle.model.specs.Steps.{deletes, Work, Write, put, delete, delete-range, begin, pass, merge-all, still-due}
 use Rattle.model.specs.Lookup.{Found, absent, reads, find, lookup}
-use Rattle.model.specs.Calls.{Op, written, flush, tick, Call, Outcome, refusing, bad-docket, bad-clock, count-written, prepared, out-of-slots, finish, act, step, run, answers}
-use Rattle.model.specs.PlainMap.{deletes}
-use Rattle.model.specs.Erasure.{call-at, covers-put, accepted, acts-deepest, pass-merges, merges-before, merges-buffer, merged-in, before, merged-after, Erased}
+use Rattle.model.specs.Calls.{Op, written, flush, tick, Call, Outcome, bad-docket, bad-clock, count-written, prepared, out-of-slots, refused, finish, step, run, answers}
+use Rattle.model.specs.Erasure.{call-at, accepted, pass-merges, merges-before, merges-buffer, merged-in, before, merged-after, Erased}
 use Rattle.model.specs.Renaming.{map-entry, map-found, map-point, map-level, map-state, map-work, map-write, map-op, map-call, map-outcome}
 use Rattle.model.proofs.NaturalMerge.{covered-map, held-all-map}
 use Rattle.model.proofs.NaturalSteps.{merge-level-map, merge-all-map, write-map, no-slot-map, pass-map, still-due-map, full-map, crowded-map, buffer-due-map}
+
+written-same : {A : Type 0} {v w : Write A} → written v ≡ written w → v ≡ w
+written-same e = cc
 
 module _ {S T A B : Type 0} (g : S → T) (f : A → B) where
   empties-map : (n : ℕ) → map (map-level g f) (replicate n empty) ≡ replicate n empty
@@ -54,19 +56,25 @@ module _ {S T A B : Type 0} (g : S → T) (f : A → B) where
   unfolding finish
   finish-map t op s w =
       rw (pass-map g f t w, still-due-map g f t (pass t w .state), held-all-map g f (s .levels), held-all-map g f (pass t w .state .levels), count-written-map op)
-
-  act-map : (t : ℕ) (op : Op A) (s : State S A) → act t (map-op f op) (map-state g f s) ≡ map-outcome g f (act t op s)
-  unfolding act
-  act-map t op s =
-      rw (out-of-slots-map t op s, merge-all-map g f s, prepared-map t op s, finish-map t op s (prepared t op s))
-      (sym (cond-ap (map-outcome g f) (out-of-slots t op s) _ _))
+      (sym (cond-ap (map-outcome g f) (still-due t (pass t w .state)) _ _))
 
   pub step-map : (s : State S A) (c : Call A) → step (map-state g f s) (map-call f c) ≡ map-outcome g f (step s c)
   unfolding step
   step-map s c =
-      rw (bad-docket-map (c .op), act-map (c .clock) (c .op) s)
-      (ap (cond (bad-docket (c .op)) _) (sym (cond-ap (map-outcome g f) (bad-clock (c .clock) (s .clock)) (record { state = s; answer = refusing 5 }) (act (c .clock) (c .op) s)))
-      ∙ sym (cond-ap (map-outcome g f) (bad-docket (c .op)) _ _))
+      let t : ℕ = c .clock in
+      let last : Outcome S A = finish t (c .op) s (prepared t (c .op) s) in
+      let third : Outcome S A = cond (out-of-slots t (c .op) s) (refused 7 (merge-all s .state)) last in
+      let second : Outcome S A = cond (bad-clock t (s .clock)) (refused 5 s) third in
+      rw (
+        bad-docket-map (c .op),
+        out-of-slots-map t (c .op) s,
+        merge-all-map g f s,
+        prepared-map t (c .op) s,
+        finish-map t (c .op) s (prepared t (c .op) s),
+        ← (cond-ap (map-outcome g f) (out-of-slots t (c .op) s) (refused 7 (merge-all s .state)) last),
+        ← (cond-ap (map-outcome g f) (bad-clock t (s .clock)) (refused 5 s) third),
+      )
+      (sym (cond-ap (map-outcome g f) (bad-docket (c .op)) (refused 4 s) second))
 
   pub run-map : (s : State S A) (cs : List (Call A)) → run (map-state g f s) (map (map-call f) cs) ≡ map-state g f (run s cs)
   unfolding run
@@ -97,15 +105,6 @@ module _ {S T A B : Type 0} (g : S → T) (f : A → B) where
   pub accepted-map : (s : State S A) (c : Call A) → accepted (map-state g f s) (map-call f c) ≡ accepted s c
   unfolding accepted
   accepted-map s c = rw (step-map s c)
-
-  acts-deepest-map : (s : State S A) (c : Call A) → acts-deepest (map-state g f s) (map-call f c) ≡ acts-deepest s c
-  unfolding acts-deepest
-  acts-deepest-map s c = go (c .op)
-    where
-      go : (op : Op A) → acts-deepest (map-state g f s) (map-call f (record { clock = c .clock; op = op })) ≡ acts-deepest s (record { clock = c .clock; op = op })
-      go (written w) = full-map g f (c .clock) w s
-      go flush = refl
-      go tick = refl
 
   pass-merges-map : (s : State S A) (c : Call A) → pass-merges (map-state g f s) (map-call f c) ≡ pass-merges s c
   unfolding pass-merges
@@ -143,15 +142,6 @@ module _ {S T A B : Type 0} (g : S → T) (f : A → B) where
   deletes-map (delete n) k = refl
   deletes-map (delete-range lo hi) k = refl
 
-  covers-put-map : (p d : Op A) → covers-put (map-op f p) (map-op f d) ≡ covers-put p d
-  covers-put-map (written (put k a)) (written w) = deletes-map w k
-  covers-put-map (written (put k a)) flush = refl
-  covers-put-map (written (put k a)) tick = refl
-  covers-put-map (written (delete k)) d = refl
-  covers-put-map (written (delete-range lo hi)) d = refl
-  covers-put-map flush d = refl
-  covers-put-map tick d = refl
-
   before-map : (s : State S A) (cs : List (Call A)) (j : ℕ) → before (map-state g f s) (map (map-call f) cs) j ≡ map-state g f (before s cs j)
   before-map s cs j = rw (take-map j cs) (run-map s (take j cs))
 
@@ -167,11 +157,19 @@ module _ {S T A B : Type 0} (g : S → T) (f : A → B) where
         merged-in-map (step (before s cs j) d .state) (drop (suc j) cs),
       )
 
-  pub erased-map : (s : State S A) (cs : List (Call A)) (i j : ℕ) → Erased (map-state g f s) (map (map-call f) cs) i j → Erased s cs i j
-  erased-map s cs i j e = record {
-    after = e .after;
-    covers = sym (rw (call-at-map cs i, call-at-map cs j) (covers-put-map (call-at cs i .op) (call-at cs j .op))) ∙ e .covers;
-    accept = sym (rw (before-map s cs j, call-at-map cs j) (accepted-map (before s cs j) (call-at cs j))) ∙ e .accept;
-    fate = sym (rw (merged-after-map s cs j, before-map s cs j, call-at-map cs j, acts-deepest-map (before s cs j) (call-at cs j))) ∙ e .fate;
-    term = rw (call-at-map cs j, run-map s cs) at (e .term);
-  }
+  -- What the changed list shows of a put and a delete, the list itself shows.
+  pub erased-map : (s : State S A) (cs : List (Call A)) (i j k : ℕ) (a : A) (w : Write A) → call-at cs i .op ≡ written (put k a) → call-at cs j .op ≡ written w
+      → Erased (map-state g f s) (map (map-call f) cs) i j k (f a) → Erased s cs i j k a
+  erased-map s cs i j k a w p q e =
+      let same : map-write f w ≡ e .write = written-same (ap (map-op f) (sym q) ∙ ap (λ (c : Call B). c .op) (sym (call-at-map cs j)) ∙ e .is-write) in
+      let d : Call A = call-at cs j in
+      record {
+        is-put = p;
+        after = e .after;
+        write = w;
+        is-write = q;
+        covers = sym (deletes-map w k) ∙ ap (λ v. deletes v k) same ∙ e .covers;
+        accept = sym (rw (before-map s cs j, call-at-map cs j) (accepted-map (before s cs j) d)) ∙ e .accept;
+        fate = sym (rw (← same, merged-after-map s cs j, before-map s cs j, call-at-map cs j, full-map g f (d .clock) w (before s cs j))) ∙ e .fate;
+        term = rw (call-at-map cs j, run-map s cs) at (e .term);
+      }

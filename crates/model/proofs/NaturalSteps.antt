@@ -12,7 +12,7 @@ use Rattle.lists.proofs.Tests.{none-map, reverse-map, set-map}
 use Rattle.lists.proofs.Loops.{iterate-map}
 use Rattle.model.specs.Records.{Point, Level, State, empty, level}
 use Rattle.model.specs.Merge.{point-slots, point-goes, release, merged, joined, freed}
-use Rattle.model.specs.Steps.{Work, Write, put, delete, delete-range, single, unplaced, begin, merge-state, merge-level, merge-all, displaced, enter-at, enter, overwrite, set-points, wipe, act-deepest, crowded, make-room, full, write, lacks, no-slot, buffer-due, due, pass-buffer, pass-level, pass, still-due}
+use Rattle.model.specs.Steps.{Work, Write, put, delete, delete-range, single, unplaced, begin, merge-state, merge-level, merge-all, displaced, enter-at, enter, overwrite, set-points, wipe, act-deepest, crowded, make-room, full, write, no-slot, buffer-due, due, pass-buffer, pass-level, pass, still-due}
 use Rattle.model.specs.Renaming.{map-point, map-level, map-state, map-work, map-write}
 use Rattle.model.proofs.NaturalMerge.{names-map, held-map, point-slots-map, going-map, staying-map, gone-map, merged-map, joined-map, freed-map}
 
@@ -118,14 +118,13 @@ module _ {S T A B : Type 0} (g : S → T) (f : A → B) where
       rw (full-map t w s, make-room-map t w s, act-deepest-map t w (make-room t w s .state), enter-map t w (make-room t w s .state))
       (ap (λ x. record { state = x; merges = make-room t w s .merges }) (sym (cond-ap (map-state g f) (full t w s) _ _)))
 
-  lacks-map : (w : Write A) (s : State S A) → lacks (map-write f w) (map-state g f s) ≡ lacks w s
-  lacks-map (put k a) s = rw (level-map (s .settings .deepest) s, names-map g f (level (s .settings .deepest) s .points) k)
-  lacks-map (delete k) s = refl
-  lacks-map (delete-range lo hi) s = refl
-
   pub no-slot-map : (t : ℕ) (w : Write A) (s : State S A) → no-slot t (map-write f w) (map-state g f s) ≡ no-slot t w s
   unfolding no-slot
-  no-slot-map t w s = rw (full-map t w s, merge-all-map s, lacks-map w (merge-all s .state))
+  no-slot-map t (put k a) s =
+      let m : State S A = merge-all s .state in
+      rw (full-map t (put k a) s, merge-all-map s, level-map (s .settings .deepest) m, names-map g f (level (s .settings .deepest) m .points) k)
+  no-slot-map t (delete k) s = refl
+  no-slot-map t (delete-range lo hi) s = refl
 
   pub buffer-due-map : (s : State S A) → buffer-due (map-state g f s) ≡ buffer-due s
   unfolding buffer-due

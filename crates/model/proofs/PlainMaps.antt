@@ -16,18 +16,18 @@ use Rattle.lists.proofs.Tests.{any-map, any-same, any-select, any-select-weaken
 use Rattle.lists.proofs.Counting.{Distinct, pigeonhole}
 use Rattle.model.specs.Records.{Point, Level, State, empty, fresh}
 use Rattle.model.specs.Merge.{names, point-before}
-use Rattle.model.specs.Steps.{Write, put, delete, delete-range, merge-state, merge-all, no-slot}
+use Rattle.model.specs.Steps.{deletes, put, delete, delete-range, merge-state, merge-all, no-slot}
 use Rattle.model.specs.Lookup.{absent, found, Row, is-found, find, lookup}
 use Rattle.model.specs.Live.{SlotsLive}
 use Rattle.model.specs.Calls.{Op, written, flush, tick, Call, Outcome, bad-clock, prepared, out-of-slots, step, run, answers, refusals}
-use Rattle.model.specs.PlainMap.{PlainMap, get, has-key, deletes, change, changed, map-full, map-refusal, map-step, map-run, map-refusals, no-rows}
+use Rattle.model.specs.PlainMap.{PlainMap, get, has-key, changed, map-full, map-refusal, map-step, map-run, map-refusals, no-rows}
 use Rattle.model.proofs.Keeps.{merge-all-keeps, prepared-kept}
 use Rattle.model.proofs.Form.{Formed, formed-kept}
 use Rattle.model.proofs.Slots.{Whole, step-whole, fresh-whole}
 use Rattle.model.proofs.StepView.{worked, accepted-outcome, StepView, refused-4, refused-5, refused-7, passed, step-view}
 use Rattle.model.proofs.Lookups.{lookup-empty}
-use Rattle.model.proofs.LookupSteps.{after, after-op, after-op-same, merge-all-lookup, pass-lookup, prepared-lookup}
-use Rattle.model.proofs.Full.{eqb-sym, puts-found, found-named, names-own, Bottom, bottom, live-slots, full-live, live-full, delete-has-slot, delete-range-has-slot}
+use Rattle.model.proofs.LookupSteps.{after-op, after-op-same, merge-all-lookup, pass-lookup, prepared-lookup}
+use Rattle.model.proofs.Full.{eqb-sym, puts-found, found-named, names-own, Bottom, bottom, live-slots, full-live, live-full}
 
 module _ {A : Type 0} where
   abbrev pub keys : List (Row A) → List ℕ
@@ -61,16 +61,13 @@ module _ {A : Type 0} where
       go false false true i h = refl
       go false false false i h = h
 
-  -- A change of the map changes its answers as a write does.
-  get-change : (t : ℕ) (w : Write A) (rs : List (Row A)) (k : ℕ) → get (change t w rs) k ≡ after t w (get rs) k
-  unfolding change get
-  get-change t (put n a) rs k = by-cases (eqb n k)
-      (λ e. rw e) (λ e. rw e (get-reject (λ j. eqb j n) rs k ∙ rw (eqb-sym k n, e)))
-  get-change t (delete n) rs k = get-reject (deletes {A = A} (delete n)) rs k
-  get-change t (delete-range lo hi) rs k = get-reject (deletes {A = A} (delete-range lo hi)) rs k
-
+  -- A change of the map changes its answers as the call does.
   get-changed : (t : ℕ) (op : Op A) (rs : List (Row A)) (k : ℕ) → get (changed t op rs) k ≡ after-op t op (get rs) k
-  get-changed t (written w) rs k = get-change t w rs k
+  unfolding changed get
+  get-changed t (written (put n a)) rs k = by-cases (eqb n k)
+      (λ e. rw e) (λ e. rw e (get-reject (λ j. eqb j n) rs k ∙ rw (eqb-sym k n, e)))
+  get-changed t (written (delete n)) rs k = get-reject (deletes {A = A} (delete n)) rs k
+  get-changed t (written (delete-range lo hi)) rs k = get-reject (deletes {A = A} (delete-range lo hi)) rs k
   get-changed t flush rs k = refl
   get-changed t tick rs k = refl
 
@@ -85,15 +82,12 @@ module _ {A : Type 0} where
       (λ g. (any-keys (r .key) (select t rs) ∙ any-select-weaken t (has-key (r .key)) rs (sym (any-keys (r .key) rs) ∙ d .0), distinct-select t rs (d .1)))
       (λ g. distinct-select t rs (d .1))
 
-  distinct-change : (t : ℕ) (w : Write A) (rs : List (Row A)) → Distinct (keys rs) → Distinct (keys (change t w rs))
-  unfolding change
-  distinct-change t (put n a) rs d =
-      (any-keys n (reject (has-key n) rs) ∙ any-select (λ r. not (has-key n r)) (has-key n) (λ r h. not-true (has-key n r) h) rs, distinct-select (λ r. not (has-key n r)) rs d)
-  distinct-change t (delete n) rs d = distinct-select _ rs d
-  distinct-change t (delete-range lo hi) rs d = distinct-select _ rs d
-
   distinct-changed : (t : ℕ) (op : Op A) (rs : List (Row A)) → Distinct (keys rs) → Distinct (keys (changed t op rs))
-  distinct-changed t (written w) rs d = distinct-change t w rs d
+  unfolding changed
+  distinct-changed t (written (put n a)) rs d =
+      (any-keys n (reject (has-key n) rs) ∙ any-select (λ r. not (has-key n r)) (has-key n) (λ r h. not-true (has-key n r) h) rs, distinct-select (λ r. not (has-key n r)) rs d)
+  distinct-changed t (written (delete n)) rs d = distinct-select _ rs d
+  distinct-changed t (written (delete-range lo hi)) rs d = distinct-select _ rs d
   distinct-changed t flush rs d = d
   distinct-changed t tick rs d = d
 
@@ -180,8 +174,8 @@ module _ {S A : Type 0} (n : ℕ) (s : State S A) (m : PlainMap A) (same : Alike
 
   op-full-alike : (t : ℕ) (op : Op A) → map-full n op (m .rows) ≡ out-of-slots t op s
   op-full-alike t (written (put k a)) = full-alike t k a
-  op-full-alike t (written (delete k)) = sym (delete-has-slot t k s)
-  op-full-alike t (written (delete-range lo hi)) = sym (delete-range-has-slot t lo hi s)
+  op-full-alike t (written (delete k)) = unfold no-slot in refl
+  op-full-alike t (written (delete-range lo hi)) = unfold no-slot in refl
   op-full-alike t flush = refl
   op-full-alike t tick = refl
 

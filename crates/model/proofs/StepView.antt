@@ -6,7 +6,7 @@ use lib.Dec.{eqb}
 use Rattle.lists.proofs.Bools.{cond-elim}
 use Rattle.model.specs.Records.{State, held-all}
 use Rattle.model.specs.Steps.{Work, merge-all, pass}
-use Rattle.model.specs.Calls.{Call, Outcome, refusing, bad-docket, bad-clock, count-written, timed, prepared, out-of-slots, finish, act, step}
+use Rattle.model.specs.Calls.{Call, Outcome, bad-docket, bad-clock, count-written, timed, prepared, out-of-slots, refused, finish, step}
 use Rattle.model.specs.Erasure.{accepted}
 use Rattle.model.proofs.Settle.{never-still-due}
 
@@ -23,10 +23,10 @@ module _ {S A : Type 0} (s : State S A) (c : Call A) where
   }
 
   pub data StepView : Outcome S A → Type 0 where
-    refused-4 : bad-docket (c .op) ≡ true → StepView (record { state = s; answer = refusing 4 })
-    refused-5 : bad-docket (c .op) ≡ false → bad-clock (c .clock) (s .clock) ≡ true → StepView (record { state = s; answer = refusing 5 })
+    refused-4 : bad-docket (c .op) ≡ true → StepView (refused 4 s)
+    refused-5 : bad-docket (c .op) ≡ false → bad-clock (c .clock) (s .clock) ≡ true → StepView (refused 5 s)
     refused-7 : bad-docket (c .op) ≡ false → bad-clock (c .clock) (s .clock) ≡ false → out-of-slots (c .clock) (c .op) s ≡ true
-        → StepView (record { state = merge-all s .state; answer = refusing 7 })
+        → StepView (refused 7 (merge-all s .state))
     passed : bad-docket (c .op) ≡ false → bad-clock (c .clock) (s .clock) ≡ false → out-of-slots (c .clock) (c .op) s ≡ false → StepView accepted-outcome
 
   finish-accepts : finish (c .clock) (c .op) s (prepared (c .clock) (c .op) s) ≡ accepted-outcome
@@ -34,7 +34,7 @@ module _ {S A : Type 0} (s : State S A) (c : Call A) where
   finish-accepts = rw (never-still-due (c .clock) (prepared (c .clock) (c .op) s))
 
   pub step-view : StepView (step s c)
-  unfolding step act
+  unfolding step
   step-view =
       cond-elim StepView (bad-docket (c .op)) _ _ refused-4
       (λ d. cond-elim StepView (bad-clock (c .clock) (s .clock)) _ _ (refused-5 d)

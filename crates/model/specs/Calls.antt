@@ -31,13 +31,10 @@ refusing n = record { refusal = n; merges = 0; purged = 0 }
 
 module _ {A : Type 0} where
   -- Refusal 4: "above 65,535, or lo above hi".
-  abbrev pub bad-write : Write A → Bool
-  bad-write (put k a) = ltb 65535 k
-  bad-write (delete k) = ltb 65535 k
-  bad-write (delete-range lo hi) = ltb 65535 hi || ltb hi lo
-
   abbrev pub bad-docket : Op A → Bool
-  bad-docket (written w) = bad-write w
+  bad-docket (written (put k a)) = ltb 65535 k
+  bad-docket (written (delete k)) = ltb 65535 k
+  bad-docket (written (delete-range lo hi)) = ltb 65535 hi || ltb hi lo
   bad-docket flush = false
   bad-docket tick = false
 
@@ -66,33 +63,24 @@ module _ {S A : Type 0} where
   out-of-slots t flush s = false
   out-of-slots t tick s = false
 
-  -- "purged = held before + written − held after"
+  abbrev pub refused : ℕ → State S A → Outcome S A
+  refused n s = record { state = s; answer = refusing n }
+
+  -- The pass ends every accepted call; "purged = held before + written − held after".
   unfoldable pub finish : ℕ → Op A → State S A → Work S A → Outcome S A
   finish t op s w =
       let p = pass t w in
-      record {
-        state = timed t (p .state);
-        answer = cond (still-due t (p .state)) (refusing 8)
-            (record {
-              refusal = 0;
-              merges = p .merges;
-              purged = held-all (s .levels) + count-written op - held-all (p .state .levels);
-            });
-      }
+      let purged = held-all (s .levels) + count-written op - held-all (p .state .levels) in
+      cond (still-due t (p .state)) (refused 8 (timed t (p .state)))
+      (record { state = timed t (p .state); answer = record { refusal = 0; merges = p .merges; purged = purged } })
 
-  -- Refusal 7: "tables stay merged, clock as before".
-  unfoldable pub act : ℕ → Op A → State S A → Outcome S A
-  act t op s =
-      cond (out-of-slots t op s)
-      (record { state = merge-all s .state; answer = refusing 7 })
-      (finish t op s (prepared t op s))
-
-  -- "The order is the table's".
+  -- "The order is the table's". Under 7 "tables stay merged, clock as before".
   unfoldable pub step : State S A → Call A → Outcome S A
   step s c =
-      cond (bad-docket (c .op)) (record { state = s; answer = refusing 4 })
-      (cond (bad-clock (c .clock) (s .clock)) (record { state = s; answer = refusing 5 })
-      (act (c .clock) (c .op) s))
+      cond (bad-docket (c .op)) (refused 4 s)
+      (cond (bad-clock (c .clock) (s .clock)) (refused 5 s)
+      (cond (out-of-slots (c .clock) (c .op) s) (refused 7 (merge-all s .state))
+      (finish (c .clock) (c .op) s (prepared (c .clock) (c .op) s))))
 
   unfoldable pub run : State S A → List (Call A) → State S A
   run s [] = s

@@ -1,19 +1,22 @@
 -- Document 01, "Edges" and "The script program": the ● cases and the script, as one table of equations.
 use mathlib.Core.Path.{_≡_}
+use mathlib.Core.Bool.{true, false}
 use mathlib.Core.List.{List, [], _∷_, _++_}
 use Prim.Native.Nat.{ℕ, _≤_}
 use Rattle.settings.specs.declared.Settings.{Settings}
 use Rattle.settings.specs.Limits.{limit}
-use Rattle.model.specs.Records.{State, any-slots, fresh}
+use lib.ListN.{replicate}
+use Rattle.model.specs.Records.{State, fresh}
 use Rattle.model.specs.Steps.{put, delete, delete-range}
-use Rattle.model.specs.Lookup.{absent, found, lookup}
+use Rattle.model.specs.Lookup.{absent, found, scan, lookup}
 use Rattle.model.specs.Calls.{written, flush, tick, Call, Answer, refusing, step, run, answers}
 
 abbrev pub settings : ℕ → ℕ → ℕ → ℕ → Settings
 settings l t b d = record { deepest = l; ratio = t; buffer = b; term = d }
 
+-- "N less all records as the free slots": N of them, and it does not matter which.
 abbrev pub store : ℕ → Settings → State (Unit {0}) ℕ
-store n s = fresh s (any-slots n)
+store n s = fresh s (replicate n tt)
 
 abbrev pub accepts : ℕ → ℕ → Answer
 accepts m p = record { refusal = 0; merges = m; purged = p }
@@ -74,3 +77,41 @@ pub record CaseTable : Type 0 where
       ≡ accepts 0 0 ∷ accepts 1 0 ∷ accepts 0 0 ∷ accepts 1 1 ∷ accepts 0 0 ∷ accepts 1 0 ∷ accepts 1 1 ∷ refusing 5 ∷ []
   pub first-lookup : lookup (run hall morning .levels) 7 ≡ absent
   pub second-lookup : lookup (run hall (noon ++ T 5 ∷ []) .levels) 7 ≡ found 71 4
+
+-- Three puts that have sunk to level 2, the deepest, under a term of 4.
+abbrev pub deep : State (Unit {0}) ℕ
+deep = store 6 (settings 2 2 1 4)
+
+abbrev pub sunk : List (Call ℕ)
+sunk = P 1 5 50 ∷ P 1 6 60 ∷ P 1 7 70 ∷ []
+
+-- What tells a store from its near misses, and the edges that carry no ●.
+pub record NearMissTable : Type 0 where
+  -- "A put over a delete hides it": at 6 the older tally below goes all the same.
+  pub owed-outlives-the-delete :
+      answers (run deep sunk) (D 2 5 ∷ P 3 5 51 ∷ T 5 ∷ T 6 ∷ [])
+      ≡ accepts 1 0 ∷ accepts 1 1 ∷ accepts 0 0 ∷ accepts 1 1 ∷ []
+  -- "A second delete of a docket that restarts the term."
+  pub term-does-not-restart :
+      answers (run deep sunk) (D 2 5 ∷ D 4 5 ∷ T 5 ∷ T 6 ∷ [])
+      ≡ accepts 1 0 ∷ accepts 1 1 ∷ accepts 0 0 ∷ accepts 1 2 ∷ []
+  -- "A range wiped at level L before it has wiped what it covers there."
+  pub range-wipes-first :
+      answers (run deep sunk) (R 2 5 6 ∷ T 5 ∷ T 6 ∷ []) ≡ accepts 1 0 ∷ accepts 0 0 ∷ accepts 1 3 ∷ []
+  pub range-is-obeyed-above : lookup (run deep (sunk ++ R 2 5 6 ∷ []) .levels) 5 ≡ absent
+  -- "If a slot is now free, the write goes on as usual."
+  pub not-full-early :
+      answers (store 2 (settings 2 2 1 9)) (P 1 5 50 ∷ D 2 5 ∷ P 3 6 60 ∷ P 4 7 70 ∷ [])
+      ≡ accepts 1 0 ∷ accepts 1 1 ∷ accepts 1 0 ∷ accepts 2 1 ∷ []
+  -- Limit 0 is a limit: one pass takes a delete down through every level that has it.
+  pub one-pass-many-merges :
+      answers (store 6 (settings 6 2 2 1)) (P 1 5 50 ∷ D 1 6 ∷ T 2 ∷ []) ≡ accepts 0 0 ∷ accepts 5 0 ∷ accepts 1 1 ∷ []
+  -- "Clock equal to the last is accepted. Scan with no rows over a live docket: count 0, more."
+  pub equal-clock : answers hall (P 3 5 50 ∷ P 3 6 60 ∷ P 2 6 61 ∷ []) ≡ accepts 0 0 ∷ accepts 1 0 ∷ refusing 5 ∷ []
+  pub scan-no-rows : scan (lookup (run deep sunk .levels)) 6 7 0 ≡ record { rows = []; count = 0; more = true; next = 6 }
+  pub scan-one-row :
+      scan (lookup (run deep sunk .levels)) 5 6 1
+      ≡ record { rows = record { key = 5; tally = 50; stamp = 1 } ∷ []; count = 1; more = true; next = 6 }
+  pub scan-all :
+      scan (lookup (run deep sunk .levels)) 6 6 1
+      ≡ record { rows = record { key = 6; tally = 60; stamp = 1 } ∷ []; count = 1; more = false; next = 0 }

@@ -1,5 +1,5 @@
 -- Document 01, "Steps": lookup and scan, which write nothing.
-use mathlib.Core.Bool.{Bool, true, false, cond, _||_}
+use mathlib.Core.Bool.{Bool, true, false, cond}
 use mathlib.Core.List.{List, [], _∷_}
 use Prim.Native.Nat.{ℕ, zero, suc, _-_}
 use lib.Dec.{ltb, eqb}
@@ -23,11 +23,6 @@ pub record Scan (A : Type 0) : Type 0 where
   pub count : ℕ
   pub more : Bool
   pub next : ℕ
-
--- A refusal's number, or what was asked for.
-pub data Reply (X : Type 0) : Type 0 where
-  refused : ℕ → Reply X
-  answered : X → Reply X
 
 module _ {A : Type 0} where
   abbrev pub reads : Entry A → ℕ → Found A
@@ -76,10 +71,3 @@ module _ {S A : Type 0} where
   unfoldable pub lookup : List (Level S A) → ℕ → Found A
   lookup [] k = absent
   lookup (l ∷ ls) k = find (l .points) k (cond (covered (l .ranges) k) absent (lookup ls k))
-
-  -- Refusal 4: "above 65,535, or lo above hi".
-  abbrev pub look-up : List (Level S A) → ℕ → Reply (Found A)
-  look-up ls k = cond (ltb 65535 k) (refused 4) (answered (lookup ls k))
-
-  abbrev pub scan-range : List (Level S A) → ℕ → ℕ → ℕ → Reply (Scan A)
-  scan-range ls lo hi room = cond (ltb 65535 hi || ltb hi lo) (refused 4) (answered (scan (lookup ls) lo hi room))

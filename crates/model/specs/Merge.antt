@@ -2,14 +2,15 @@
 use mathlib.Core.Bool.{Bool, cond, _&&_, _||_}
 use mathlib.Core.List.{List, [], _∷_, _++_, map, reverseAux}
 use Prim.Native.Nat.{ℕ, min, max}
-use lib.Dec.{leb, ltb, eqb}
+use lib.Dec.{ltb, eqb}
+use Rattle.settings.specs.Limits.{within}
 use Rattle.lists.specs.Lists.{any, select, reject, merge}
 use Rattle.model.specs.Records.{Point, Range, Level, is-put}
 
 module _ {S : Type 0} where
   -- "A delete covers the dockets from its lo to its hi."
   abbrev pub covers : Range S → ℕ → Bool
-  covers r k = leb (r .lo) k && leb k (r .hi)
+  covers r k = within (r .lo) k (r .hi)
 
   abbrev pub covered : List (Range S) → ℕ → Bool
   covered rs k = any (λ r. covers r k) rs

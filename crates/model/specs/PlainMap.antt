@@ -5,7 +5,7 @@ use Prim.Native.Nat.{ℕ}
 use lib.Dec.{leb, eqb}
 use lib.ListN.{length}
 use Rattle.lists.specs.Lists.{any, reject}
-use Rattle.model.specs.Steps.{Write, put, delete, delete-range}
+use Rattle.model.specs.Steps.{deletes, put, delete, delete-range}
 use Rattle.model.specs.Lookup.{Found, absent, found, Row}
 use Rattle.model.specs.Calls.{Op, written, flush, tick, Call, bad-docket, bad-clock}
 
@@ -21,19 +21,10 @@ module _ {A : Type 0} where
   abbrev pub has-key : ℕ → Row A → Bool
   has-key k r = eqb (r .key) k
 
-  -- "A delete covers the dockets from its lo to its hi."
-  abbrev pub deletes : Write A → ℕ → Bool
-  deletes (put k a) n = false
-  deletes (delete k) n = eqb k n
-  deletes (delete-range lo hi) n = leb lo n && leb n hi
-
-  unfoldable pub change : ℕ → Write A → List (Row A) → List (Row A)
-  change t (put k a) rs = record { key = k; tally = a; stamp = t } ∷ reject (has-key k) rs
-  change t (delete k) rs = reject (λ r. deletes (delete k) (r .key)) rs
-  change t (delete-range lo hi) rs = reject (λ r. deletes (delete-range lo hi) (r .key)) rs
-
-  abbrev pub changed : ℕ → Op A → List (Row A) → List (Row A)
-  changed t (written w) rs = change t w rs
+  unfoldable pub changed : ℕ → Op A → List (Row A) → List (Row A)
+  changed t (written (put k a)) rs = record { key = k; tally = a; stamp = t } ∷ reject (has-key k) rs
+  changed t (written (delete k)) rs = reject (λ r. deletes (delete k) (r .key)) rs
+  changed t (written (delete-range lo hi)) rs = reject (λ r. deletes (delete-range lo hi) (r .key)) rs
   changed t flush rs = rs
   changed t tick rs = rs
 

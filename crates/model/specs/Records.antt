@@ -52,6 +52,10 @@ module _ {S A : Type 0} where
   abbrev pub level : ℕ → State S A → Level S A
   level i s = getD (s .levels) i empty
 
+  -- The state with other free slots and levels.
+  abbrev pub stored : State S A → List S → List (Level S A) → State S A
+  stored s free levels = record { settings = s .settings; clock = s .clock; free = free; levels = levels }
+
   -- "Held is the number of records": of a level, and of all levels.
   abbrev pub held : Level S A → ℕ
   held l = length (l .points) + length (l .ranges)
@@ -63,7 +67,3 @@ module _ {S A : Type 0} where
   unfoldable pub fresh : Settings → List S → State S A
   fresh settings slots =
       record { settings = settings; clock = 0; free = slots; levels = replicate (suc (settings .deepest)) empty }
-
--- N free slots, where it does not matter which they are: "N less all records as the free slots".
-abbrev pub any-slots : ℕ → List (Unit {0})
-any-slots n = replicate n tt

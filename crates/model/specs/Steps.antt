@@ -5,9 +5,9 @@ use Prim.Native.Nat.{ℕ, suc, _-_}
 use lib.Dec.{leb, ltb, eqb}
 use lib.ListN.{set}
 use Rattle.settings.specs.declared.Settings.{Settings}
-use Rattle.settings.specs.Limits.{capacity, limit}
+use Rattle.settings.specs.Limits.{within, capacity, limit}
 use Rattle.lists.specs.Lists.{none, select, reject, iterate}
-use Rattle.model.specs.Records.{value, tombstone, Point, Level, State, empty, level, held}
+use Rattle.model.specs.Records.{value, tombstone, Point, Level, State, empty, level, stored, held}
 use Rattle.model.specs.Merge.{names, point-slots, point-goes, gone, release, merged, joined, freed}
 
 -- A state, and the merges that led to it: "those whose upper level had a record".
@@ -21,15 +21,19 @@ pub data Write (A : Type 0) : Type 0 where
   delete : ℕ → Write A
   delete-range : ℕ → ℕ → Write A
 
+module _ {A : Type 0} where
+  -- "A delete covers the dockets from its lo to its hi."
+  abbrev pub deletes : Write A → ℕ → Bool
+  deletes (put k a) n = false
+  deletes (delete k) n = eqb k n
+  deletes (delete-range lo hi) n = within lo n hi
+
 module _ {S A : Type 0} where
   -- "a level of one record …; owed of that level is the clock for a delete, 0 for a put"
   unfoldable pub single : S → ℕ → Write A → Level S A
-  single x t (put k a) =
-      record { points = record { slot = x; key = k; entry = value a; stamp = t } ∷ []; ranges = []; owed = 0 }
-  single x t (delete k) =
-      record { points = record { slot = x; key = k; entry = tombstone; stamp = t } ∷ []; ranges = []; owed = t }
-  single x t (delete-range lo hi) =
-      record { points = []; ranges = record { slot = x; lo = lo; hi = hi; stamp = t } ∷ []; owed = t }
+  single x t (put k a) = record { points = record { slot = x; key = k; entry = value a; stamp = t } ∷ []; ranges = []; owed = 0 }
+  single x t (delete k) = record { points = record { slot = x; key = k; entry = tombstone; stamp = t } ∷ []; ranges = []; owed = t }
+  single x t (delete-range lo hi) = record { points = []; ranges = record { slot = x; lo = lo; hi = hi; stamp = t } ∷ []; owed = t }
 
 module _ {A : Type 0} where
   -- The same before a slot is chosen, to ask what it makes go.
@@ -46,12 +50,7 @@ module _ {S A : Type 0} where
       let deepest = eqb (suc i) (s .settings .deepest) in
       let u = level i s in
       let l = level (suc i) s in
-      record {
-        settings = s .settings;
-        clock = s .clock;
-        free = release (freed deepest u l) (s .free);
-        levels = set (set (s .levels) i empty) (suc i) (joined deepest u l);
-      }
+      stored s (release (freed deepest u l) (s .free)) (set (set (s .levels) i empty) (suc i) (joined deepest u l))
 
   unfoldable pub merge-level : ℕ → Work S A → Work S A
   merge-level i w = record {
@@ -70,12 +69,7 @@ module _ {S A : Type 0} where
   -- "enters the buffer as a level of one record merged into it", in the first of the free slots
   unfoldable pub enter-at : ℕ → Write A → State S A → List S → State S A
   enter-at t w s [] = s
-  enter-at t w s (x ∷ free) = record {
-    settings = s .settings;
-    clock = s .clock;
-    free = free;
-    levels = set (s .levels) 0 (merged (single x t w) (level 0 s));
-  }
+  enter-at t w s (x ∷ free) = stored s free (set (s .levels) 0 (merged (single x t w) (level 0 s)))
 
   unfoldable pub enter : ℕ → Write A → State S A → State S A
   enter t w s = enter-at t w s (release (displaced t w s) (s .free))
@@ -86,12 +80,8 @@ module _ {S A : Type 0} where
       cond (eqb (p .key) k) (record { slot = p .slot; key = p .key; entry = value a; stamp = t }) p
 
   unfoldable pub set-points : ℕ → List (Point S A) → State S A → List S → State S A
-  set-points i ps s free = record {
-    settings = s .settings;
-    clock = s .clock;
-    free = free;
-    levels = set (s .levels) i (record { points = ps; ranges = level i s .ranges; owed = level i s .owed });
-  }
+  set-points i ps s free =
+      stored s free (set (s .levels) i (record { points = ps; ranges = level i s .ranges; owed = level i s .owed }))
 
   unfoldable pub wipe : Level (Unit {0}) A → ℕ → State S A → State S A
   wipe u i s =
@@ -122,13 +112,10 @@ module _ {S A : Type 0} where
       record { state = cond (full t w s) (act-deepest t w (r .state)) (enter t w (r .state)); merges = r .merges }
 
   -- Refusal 7: "still no slot after the merging, and level L lacks the docket".
-  abbrev pub lacks : Write A → State S A → Bool
-  lacks (put k a) s = not (names (level (s .settings .deepest) s .points) k)
-  lacks (delete k) s = false
-  lacks (delete-range lo hi) s = false
-
   unfoldable pub no-slot : ℕ → Write A → State S A → Bool
-  no-slot t w s = full t w s && lacks w (merge-all s .state)
+  no-slot t (put k a) s = full t (put k a) s && not (names (level (s .settings .deepest) (merge-all s .state) .points) k)
+  no-slot t (delete k) s = false
+  no-slot t (delete-range lo hi) s = false
 
   -- The pass: "if the buffer has B records or more it is merged".
   unfoldable pub buffer-due : State S A → Bool
