@@ -23,8 +23,8 @@ module _ {A : Type 0} where
 
   unfoldable pub changed : ℕ → Op A → List (Row A) → List (Row A)
   changed t (written (put k a)) rs = record { key = k; tally = a; stamp = t } ∷ reject (has-key k) rs
-  changed t (written (delete k)) rs = reject (λ r. deletes (delete k) (r .key)) rs
-  changed t (written (delete-range lo hi)) rs = reject (λ r. deletes (delete-range lo hi) (r .key)) rs
+  changed t (written (delete k)) rs = reject (λ r. deletes {A = A} (delete k) (r .key)) rs
+  changed t (written (delete-range lo hi)) rs = reject (λ r. deletes {A = A} (delete-range lo hi) (r .key)) rs
   changed t flush rs = rs
   changed t tick rs = rs
 
