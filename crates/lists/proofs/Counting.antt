@@ -1,56 +1,45 @@
 -- Counting: how many elements pass a test, and that different elements need as many places.
 use mathlib.Core.Path.{_≡_, refl, sym, ap, _∙_}
 use mathlib.Core.Bool.{Bool, true, false, cond, _||_, not, false≢true, true≢false}
-use mathlib.Core.List.{List, [], _∷_}
+use mathlib.Core.List.{List, [], _∷_, _++_}
 use Prim.Native.Nat.{ℕ, zero, suc, _+_, _≤_, _<_}
 use native.Mathlib.Omega.{arith}
 use lib.Dec.{eqb}
 use lib.ListN.{length, getD, set, replicate}
 use borrow.Author.Tests.{eqb-true, eqb-false, ne-eqb}
-use Rattle.lists.specs.Lists.{any, select, reject, sum, merge}
+use Rattle.lists.specs.Lists.{any, select, reject, sum, count, merge}
 use Rattle.lists.specs.All.{All}
-use Rattle.lists.proofs.Bools.{cond-ap, cond-elim, by-cases, or-second, or-right, or-left, or-false-left, or-false-right}
+use Rattle.lists.proofs.Tests.{length-select}
+use Rattle.lists.proofs.Bools.{cond-elim, by-cases, or-second, or-right, or-left, or-false-left, or-false-right}
 
 module _ {X : Type 0} (t : X → Bool) where
-  -- How many elements pass the test.
-  abbrev pub count : List X → ℕ
-  count xs = length (select t xs)
-
-  pub count-merge : (before : X → X → Bool) (xs ys : List X) → count (merge before xs ys) ≡ count xs + count ys
-  unfolding select merge
+  pub count-merge : (before : X → X → Bool) (xs ys : List X) → count t (merge before xs ys) ≡ count t xs + count t ys
+  unfolding count merge
   count-merge before [] ys = omega arith
   count-merge before (x ∷ xs) [] = omega arith
   count-merge before (x ∷ xs) (y ∷ ys) =
-      cond-elim (λ l. count l ≡ count (x ∷ xs) + count (y ∷ ys)) (before x y) (x ∷ merge before xs (y ∷ ys)) (y ∷ merge before (x ∷ xs) ys)
-      (λ g. left (t x) (count-merge before xs (y ∷ ys))) (λ g. right (t y) (count-merge before (x ∷ xs) ys))
-    where
-      left : (b : Bool) → count (merge before xs (y ∷ ys)) ≡ count xs + count (y ∷ ys)
-          → length (cond b (x ∷ select t (merge before xs (y ∷ ys))) (select t (merge before xs (y ∷ ys)))) ≡ length (cond b (x ∷ select t xs) (select t xs)) + count (y ∷ ys)
-      left true h = omega arith
-      left false h = h
+      cond-elim (λ l. count t l ≡ count t (x ∷ xs) + count t (y ∷ ys)) (before x y) (x ∷ merge before xs (y ∷ ys)) (y ∷ merge before (x ∷ xs) ys)
+      (λ g. omega (arith, count-merge before xs (y ∷ ys))) (λ g. omega (arith, count-merge before (x ∷ xs) ys))
 
-      right : (b : Bool) → count (merge before (x ∷ xs) ys) ≡ count (x ∷ xs) + count ys
-          → length (cond b (y ∷ select t (merge before (x ∷ xs) ys)) (select t (merge before (x ∷ xs) ys))) ≡ count (x ∷ xs) + length (cond b (y ∷ select t ys) (select t ys))
-      right true h = omega arith
-      right false h = h
+  pub count-append : (xs ys : List X) → count t (xs ++ ys) ≡ count t xs + count t ys
+  unfolding count
+  count-append [] ys = omega arith
+  count-append (x ∷ xs) ys = omega (arith, count-append xs ys)
 
-  pub count-most : (xs : List X) → count xs ≤ length xs
-  unfolding select
+  at-most-one : (b : Bool) → cond b 1 0 ≤ 1
+  at-most-one true = omega arith
+  at-most-one false = omega arith
+
+  pub count-most : (xs : List X) → count t xs ≤ length xs
+  unfolding count
   count-most [] = omega arith
-  count-most (x ∷ xs) = cond-elim (λ l. length l ≤ suc (length xs)) (t x) (x ∷ select t xs) (select t xs) (λ g. omega (arith, count-most xs)) (λ g. omega (arith, count-most xs))
+  count-most (x ∷ xs) = omega (arith, at-most-one (t x), count-most xs)
 
-  pub count-select : (u : X → Bool) (xs : List X) → count (select u xs) ≤ count xs
-  unfolding select
+  pub count-select : (u : X → Bool) (xs : List X) → count t (select u xs) ≤ count t xs
+  unfolding count select
   count-select u [] = omega arith
-  count-select u (x ∷ xs) =
-      rw (cond-ap count (u x) (x ∷ select u xs) (select u xs)) (go (u x) (t x) (count-select u xs))
-    where
-      go : (b d : Bool) → count (select u xs) ≤ count xs
-          → cond b (length (cond d (x ∷ select t (select u xs)) (select t (select u xs)))) (count (select u xs)) ≤ length (cond d (x ∷ select t xs) (select t xs))
-      go true true h = omega arith
-      go true false h = h
-      go false true h = omega arith
-      go false false h = h
+  count-select u (x ∷ xs) = cond-elim (λ l. count t l ≤ count t (x ∷ xs)) (u x) (x ∷ select u xs) (select u xs)
+      (λ g. omega (arith, count-select u xs)) (λ g. omega (arith, count-select u xs))
 
 module _ {X : Type 0} (f : X → ℕ) where
   -- One element changed.
@@ -82,7 +71,7 @@ remove-length x (y ∷ ys) h = go (eqb x y) h (remove-length x ys)
   where
     go : (b : Bool) → b || any (eqb x) ys ≡ true → (any (eqb x) ys ≡ true → suc (length (reject (eqb x) ys)) ≤ length ys)
         → suc (length (cond (not b) (y ∷ reject (eqb x) ys) (reject (eqb x) ys))) ≤ suc (length ys)
-    go true g ih = omega (arith, count-most (λ z. not (eqb x z)) ys)
+    go true g ih = omega (arith, length-select (eqb x) ys)
     go false g ih = omega (arith, ih g)
 
 remove-other : (x z : ℕ) (ys : List ℕ) → eqb x z ≡ false → any (eqb z) ys ≡ true → any (eqb z) (reject (eqb x) ys) ≡ true

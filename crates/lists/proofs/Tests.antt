@@ -5,15 +5,26 @@ use mathlib.Core.List.{List, [], _∷_, _++_, map, reverseAux}
 use Prim.Native.Nat.{ℕ, zero, suc, _+_}
 use native.Mathlib.Omega.{arith}
 use lib.ListN.{length, getD, take, drop, set, replicate}
-use Rattle.lists.specs.Lists.{none, any, select, reject}
+use Rattle.lists.specs.Lists.{every, none, any, select, reject}
 use Rattle.lists.specs.All.{All}
-use Rattle.lists.proofs.Bools.{cond-ap, cond-elim, or-false-left, or-false-right, or-false-intro}
+use Rattle.lists.proofs.Bools.{and-left, and-right, and-intro, cond-ap, cond-elim, or-false-left, or-false-right, or-false-intro}
 
 module _ {X : Type 0} where
   pub any-same : (t u : X → Bool) → ((x : X) → t x ≡ u x) → (xs : List X) → any t xs ≡ any u xs
   unfolding any
   any-same t u h [] = refl
   any-same t u h (x ∷ xs) = rw (h x, any-same t u h xs)
+
+  -- A test of every element, and back.
+  pub every-all : (t : X → Bool) (xs : List X) → every t xs ≡ true → All (λ x. t x ≡ true) xs
+  unfolding every
+  every-all t [] h = tt
+  every-all t (x ∷ xs) h = (and-left (t x) (every t xs) h, every-all t xs (and-right (t x) (every t xs) h))
+
+  pub all-every-true : (t : X → Bool) (xs : List X) → All (λ x. t x ≡ true) xs → every t xs ≡ true
+  unfolding every
+  all-every-true t [] a = refl
+  all-every-true t (x ∷ xs) a = and-intro (t x) (every t xs) (a .0) (all-every-true t xs (a .1))
 
   pub select-same : (t u : X → Bool) → ((x : X) → t x ≡ u x) → (xs : List X) → select t xs ≡ select u xs
   unfolding select
@@ -92,6 +103,14 @@ module _ {X : Type 0} where
     pub all-append : (xs ys : List X) → All P xs → All P ys → All P (xs ++ ys)
     all-append [] ys a b = b
     all-append (x ∷ xs) ys a b = (a .0, all-append xs ys (a .1) b)
+
+    pub all-left : (xs ys : List X) → All P (xs ++ ys) → All P xs
+    all-left [] ys a = tt
+    all-left (x ∷ xs) ys a = (a .0, all-left xs ys (a .1))
+
+    pub all-right : (xs ys : List X) → All P (xs ++ ys) → All P ys
+    all-right [] ys a = a
+    all-right (x ∷ xs) ys a = all-right xs ys (a .1)
 
     pub all-set : (xs : List X) (i : ℕ) (y : X) → All P xs → P y → All P (set xs i y)
     all-set [] i y a p = tt

@@ -1,5 +1,5 @@
 -- List operations that document 01's definitions are written with.
-use mathlib.Core.Bool.{Bool, true, false, cond, _||_, not}
+use mathlib.Core.Bool.{_&&_, Bool, true, false, cond, _||_, not}
 use mathlib.Core.List.{List, [], _∷_}
 use Prim.Native.Nat.{ℕ, zero, suc, _+_}
 
@@ -14,6 +14,11 @@ module _ {X : Type 0} where
   any test [] = false
   any test (x ∷ xs) = test x || any test xs
 
+  -- Whether every element does.
+  unfoldable pub every : (X → Bool) → List X → Bool
+  every test [] = true
+  every test (x ∷ xs) = test x && every test xs
+
   -- The elements that pass the test, in order.
   unfoldable pub select : (X → Bool) → List X → List X
   select test [] = []
@@ -27,6 +32,11 @@ module _ {X : Type 0} where
   unfoldable pub sum : (X → ℕ) → List X → ℕ
   sum f [] = 0
   sum f (x ∷ xs) = f x + sum f xs
+
+  -- How many elements pass the test.
+  unfoldable pub count : (X → Bool) → List X → ℕ
+  count test [] = 0
+  count test (x ∷ xs) = cond (test x) 1 0 + count test xs
 
   -- Two ascending lists as one.
   unfoldable pub merge : (X → X → Bool) → List X → List X → List X

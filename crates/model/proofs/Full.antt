@@ -8,11 +8,11 @@ use lib.Dec.{eqb}
 use lib.ListN.{length, getD, set, length-set}
 use lib.Seq.{getD-set-other}
 use borrow.Author.Tests.{eqb-true, eq-eqb, not-true}
-use Rattle.lists.specs.Lists.{none, any, select, reject, sum}
+use Rattle.lists.specs.Lists.{count, none, any, reject, sum}
 use Rattle.lists.specs.All.{All, Ascending}
 use Rattle.lists.proofs.Bools.{cond-same, by-cases, and-left, and-right, and-intro, or-left, or-right, or-false, bool-ext}
 use Rattle.lists.proofs.Tests.{all-weaken, all-selected, any-same, select-none, select-never}
-use Rattle.lists.proofs.Counting.{count, count-merge, count-most, count-select, sum-set, sum-le}
+use Rattle.lists.proofs.Counting.{count-merge, count-most, count-select, sum-set, sum-le}
 use Rattle.model.specs.Records.{Entry, value, tombstone, Point, Level, State, is-put, empty, level, held, held-all}
 use Rattle.model.specs.Merge.{covered, names, point-before, range-goes, point-goes, merged, settled, joined}
 use Rattle.model.specs.Steps.{put, single, unplaced, merge-state, merge-all, displaced, crowded, full, no-slot}
@@ -66,15 +66,14 @@ module _ {S A : Type 0} where
 
   -- A list that names a docket and does not find it holds a delete.
   hides-delete : (ps : List (Point S A)) (k : ℕ) (d : Found A) → names ps k ≡ true → is-found (find ps k d) ≡ false → suc (count (λ p. is-put (p .entry)) ps) ≤ length ps
-  unfolding any find select
+  unfolding any find count
   hides-delete [] k d n h = absurd (false≢true n)
   hides-delete (p ∷ ps) k d n h = go (eqb (p .key) k) (p .entry) refl n h (hides-delete ps k d)
     where
-      puts : List (Point S A)
-      puts = select (λ p. is-put (p .entry)) ps
-
+      puts : ℕ
+      puts = count (λ p. is-put (p .entry)) ps
       go : (b : Bool) (e : Entry A) → p .entry ≡ e → b || names ps k ≡ true → is-found (cond b (reads e (p .stamp)) (find ps k d)) ≡ false
-          → (names ps k ≡ true → is-found (find ps k d) ≡ false → suc (length puts) ≤ length ps) → suc (length (cond (is-put (p .entry)) (p ∷ puts) puts)) ≤ suc (length ps)
+          → (names ps k ≡ true → is-found (find ps k d) ≡ false → suc puts ≤ length ps) → suc (cond (is-put (p .entry)) 1 0 + puts) ≤ suc (length ps)
       go true (value a) e m f ih = absurd (true≢false f)
       go true tombstone e m f ih = rw e (omega (arith, count-most (λ p. is-put (p .entry)) ps))
       go false (value a) e m f ih = rw e (omega (arith, ih m f))
@@ -105,7 +104,7 @@ module _ {S A : Type 0} where
   merge-puts i s h =
       let b : Bool = eqb (suc i) (s .settings .deepest) in
       let v : Level S A = joined b (level i s) (level (suc i) s) in
-      let no-puts : puts-of empty ≡ 0 = unfold select in refl in
+      let no-puts : puts-of empty ≡ 0 = unfold count in refl in
       omega (
         arith,
         sum-set puts-of (s .levels) i empty empty (omega arith),
@@ -137,13 +136,13 @@ module _ {S A : Type 0} where
   puts-only (suc n) l = omega (arith, puts-only n l, no-puts)
     where
       no-puts : puts-of empty ≡ 0
-      no-puts = unfold select in refl
+      no-puts = unfold count in refl
 
   -- All puts: as many as there are points.
   count-all : (ps : List (Point S A)) → AllPuts ps → count (λ p. is-put (p .entry)) ps ≡ length ps
-  unfolding select
+  unfolding count
   count-all [] a = refl
-  count-all (p ∷ ps) a = rw (a .0) (ap suc (count-all ps (a .1)))
+  count-all (p ∷ ps) a = rw (a .0) (omega (arith, count-all ps (a .1)))
 
   settled-puts : (l : Level S A) → AllPuts (settled l .points)
   unfolding settled

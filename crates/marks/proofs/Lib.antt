@@ -1,0 +1,3 @@
+-- Laws of marks.
+pub mod Bits
+pub mod Marks

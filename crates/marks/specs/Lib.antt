@@ -1,0 +1,2 @@
+-- Marks of slots, packed into bytes.
+pub mod Marks

@@ -1,0 +1,13 @@
+-- Laws of the tables' words.
+pub mod Rows
+pub mod Cells
+pub mod Once
+pub mod Lay
+pub mod Reading
+pub mod LevelRows
+pub mod Back
+pub mod Linked
+pub mod LevelSound
+pub mod SoundWords
+pub mod WordsSound
+pub mod FormedSound

@@ -1,0 +1,1 @@
+// The words of the two tables as definitions, with their laws; no code.
