@@ -1,7 +1,7 @@
 -- Counting: how many elements pass a test, and that different elements need as many places.
 use mathlib.Core.Path.{_≡_, refl, sym, ap, _∙_}
 use mathlib.Core.Bool.{Bool, true, false, cond, _||_, not, false≢true, true≢false}
-use mathlib.Core.List.{List, [], _∷_, _++_}
+use mathlib.Core.List.{List, [], _∷_, _++_, map, reverseAux}
 use Prim.Native.Nat.{ℕ, zero, suc, _+_, _≤_, _<_}
 use native.Mathlib.Omega.{arith}
 use lib.Dec.{eqb}
@@ -54,10 +54,59 @@ module _ {X : Type 0} (f : X → ℕ) where
   sum-le g h [] = omega arith
   sum-le g h (x ∷ xs) = omega (arith, h x, sum-le g h xs)
 
+  pub sum-append : (xs ys : List X) → sum f (xs ++ ys) ≡ sum f xs + sum f ys
+  unfolding sum
+  sum-append [] ys = omega arith
+  sum-append (x ∷ xs) ys = omega (arith, sum-append xs ys)
+
+  pub sum-reverse : (xs ys : List X) → sum f (reverseAux xs ys) ≡ sum f xs + sum f ys
+  unfolding sum
+  sum-reverse [] ys = omega arith
+  sum-reverse (x ∷ xs) ys = omega (arith, sum-reverse xs (x ∷ ys))
+
+  pub sum-select : (t : X → Bool) (xs : List X) → sum f (select t xs) + sum f (reject t xs) ≡ sum f xs
+  unfolding sum select
+  sum-select t [] = refl
+  sum-select t (x ∷ xs) = go (t x) (sum-select t xs)
+    where
+      go : (b : Bool) → sum f (select t xs) + sum f (reject t xs) ≡ sum f xs
+          → sum f (cond b (x ∷ select t xs) (select t xs)) + sum f (cond (not b) (x ∷ reject t xs) (reject t xs)) ≡ f x + sum f xs
+      go true h = omega arith
+      go false h = omega arith
+
+  pub sum-merge : (before : X → X → Bool) (xs ys : List X) → sum f (merge before xs ys) ≡ sum f xs + sum f ys
+  unfolding sum merge
+  sum-merge before [] ys = omega arith
+  sum-merge before (x ∷ xs) [] = omega arith
+  sum-merge before (x ∷ xs) (y ∷ ys) =
+      cond-elim (λ l. sum f l ≡ sum f (x ∷ xs) + sum f (y ∷ ys)) (before x y) (x ∷ merge before xs (y ∷ ys)) (y ∷ merge before (x ∷ xs) ys)
+      (λ g. omega (arith, sum-merge before xs (y ∷ ys))) (λ g. omega (arith, sum-merge before (x ∷ xs) ys))
+
   pub sum-zeros : (n : ℕ) (x : X) → f x ≡ 0 → sum f (replicate n x) ≡ 0
   unfolding sum
   sum-zeros zero x e = refl
   sum-zeros (suc n) x e = omega (arith, sum-zeros n x e)
+
+pub sum-map : {X Y : Type 0} (f : Y → ℕ) (h : X → Y) (xs : List X) → sum f (map h xs) ≡ sum (λ x. f (h x)) xs
+unfolding sum
+sum-map f h [] = refl
+sum-map f h (x ∷ xs) = rw (sum-map f h xs)
+
+pub sum-same : {X : Type 0} (f g : X → ℕ) → ((x : X) → f x ≡ g x) → (xs : List X) → sum f xs ≡ sum g xs
+unfolding sum
+sum-same f g h [] = refl
+sum-same f g h (x ∷ xs) = rw (h x, sum-same f g h xs)
+
+-- Counting elements is a sum of ones.
+pub sum-ones : {X : Type 0} (xs : List X) → sum (λ x. 1) xs ≡ length xs
+unfolding sum
+sum-ones [] = refl
+sum-ones (x ∷ xs) = omega (arith, sum-ones xs)
+
+pub count-sum : {X : Type 0} (t : X → Bool) (xs : List X) → count t xs ≡ sum (λ x. cond (t x) 1 0) xs
+unfolding count sum
+count-sum t [] = refl
+count-sum t (x ∷ xs) = rw (count-sum t xs)
 
 -- No number stands twice in the list.
 abbrev pub Distinct : List ℕ → Type 0

@@ -7,6 +7,7 @@ pub mod Keeps
 pub mod Form
 pub mod Settle
 pub mod StepView
+pub mod Weights
 pub mod Slots
 pub mod Numbers
 pub mod Lookups
