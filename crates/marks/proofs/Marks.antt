@@ -25,6 +25,7 @@ mark-other m s t l n h = go (ℕ-discrete (t / 8) (s / 8))
   where
     b : ℕ
     b = getD m (s / 8) 0
+
     go : Dec (t / 8 ≡ s / 8) → bit (t % 8) (getD (set m (s / 8) (b + 2 ^ (s % 8))) (t / 8) 0) ≡ bit (t % 8) (getD m (t / 8) 0)
     go (yes q) =
         let ne : t % 8 ≢ s % 8 = λ r. n (omega arith) in

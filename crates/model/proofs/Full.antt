@@ -72,6 +72,7 @@ module _ {S A : Type 0} where
     where
       puts : ℕ
       puts = count (λ p. is-put (p .entry)) ps
+
       go : (b : Bool) (e : Entry A) → p .entry ≡ e → b || names ps k ≡ true → is-found (cond b (reads e (p .stamp)) (find ps k d)) ≡ false
           → (names ps k ≡ true → is-found (find ps k d) ≡ false → suc puts ≤ length ps) → suc (cond (is-put (p .entry)) 1 0 + puts) ≤ suc (length ps)
       go true (value a) e m f ih = absurd (true≢false f)

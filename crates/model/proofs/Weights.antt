@@ -49,21 +49,27 @@ module _ {S : Type 0} (g : S → ℕ) where
   module _ {A : Type 0} where
     weigh-merged : (u l : Level S A) → weigh-level g (merged u l) + sum g (gone u l) ≡ weigh-level g u + weigh-level g l
     unfolding merged
-    weigh-merged u l = omega (arith,
-        sum-merge (λ p. g (p .slot)) point-before (u .points) (reject (point-goes u) (l .points)),
-        sum-merge (λ r. g (r .slot)) range-before (map (later (l .ranges)) (u .ranges)) (reject (range-goes (u .ranges)) (l .ranges)),
-        weigh-later (l .ranges) (u .ranges),
-        sum-append g (point-slots (select (point-goes u) (l .points))) (range-slots (select (range-goes (u .ranges)) (l .ranges))),
-        sum-map g (λ (p : Point S A). p .slot) (select (point-goes u) (l .points)),
-        sum-map g (λ (r : Range S). r .slot) (select (range-goes (u .ranges)) (l .ranges)),
-        sum-select (λ p. g (p .slot)) (point-goes u) (l .points), sum-select (λ r. g (r .slot)) (range-goes (u .ranges)) (l .ranges))
+    weigh-merged u l = omega (
+      arith,
+      sum-merge (λ p. g (p .slot)) point-before (u .points) (reject (point-goes u) (l .points)),
+      sum-merge (λ r. g (r .slot)) range-before (map (later (l .ranges)) (u .ranges)) (reject (range-goes (u .ranges)) (l .ranges)),
+      weigh-later (l .ranges) (u .ranges),
+      sum-append g (point-slots (select (point-goes u) (l .points))) (range-slots (select (range-goes (u .ranges)) (l .ranges))),
+      sum-map g (λ (p : Point S A). p .slot) (select (point-goes u) (l .points)),
+      sum-map g (λ (r : Range S). r .slot) (select (range-goes (u .ranges)) (l .ranges)),
+      sum-select (λ p. g (p .slot)) (point-goes u) (l .points),
+      sum-select (λ r. g (r .slot)) (range-goes (u .ranges)) (l .ranges),
+    )
 
     weigh-settled : (l : Level S A) → weigh-level g (settled l) + sum g (delete-slots l) ≡ weigh-level g l
     unfolding settled sum
-    weigh-settled l = omega (arith,
-        sum-append g (point-slots (reject (λ p. is-put (p .entry)) (l .points))) (range-slots (l .ranges)),
-        sum-map g (λ (p : Point S A). p .slot) (reject (λ p. is-put (p .entry)) (l .points)),
-        sum-map g (λ (r : Range S). r .slot) (l .ranges), sum-select (λ p. g (p .slot)) (λ p. is-put (p .entry)) (l .points))
+    weigh-settled l = omega (
+      arith,
+      sum-append g (point-slots (reject (λ p. is-put (p .entry)) (l .points))) (range-slots (l .ranges)),
+      sum-map g (λ (p : Point S A). p .slot) (reject (λ p. is-put (p .entry)) (l .points)),
+      sum-map g (λ (r : Range S). r .slot) (l .ranges),
+      sum-select (λ p. g (p .slot)) (λ p. is-put (p .entry)) (l .points),
+    )
 
     weigh-joined : (b : Bool) (u l : Level S A) → weigh-level g (joined b u l) + sum g (freed b u l) ≡ weigh-level g u + weigh-level g l
     unfolding joined freed
@@ -85,19 +91,28 @@ module _ {S : Type 0} (g : S → ℕ) where
     merge-weight i s h =
         let b : Bool = eqb (suc i) (s .settings .deepest) in
         let v : Level S A = joined b (level i s) (level (suc i) s) in
-        omega (arith,
-          sum-set (weigh-level g) (s .levels) i empty empty (omega arith), weigh-empty empty refl,
+        omega (
+          arith,
+          sum-set (weigh-level g) (s .levels) i empty empty (omega arith),
+          weigh-empty empty refl,
           sum-set (weigh-level g) (set (s .levels) i empty) (suc i) v empty (omega (arith, length-set (s .levels) i empty)),
           ap (weigh-level g) (getD-set-other (s .levels) i (suc i) empty empty (omega arith)),
-          weigh-joined b (level i s) (level (suc i) s), sum-reverse g (freed b (level i s) (level (suc i) s)) (s .free))
+          weigh-joined b (level i s) (level (suc i) s),
+          sum-reverse g (freed b (level i s) (level (suc i) s)) (s .free),
+        )
 
     enter-at-weight : (t : ℕ) (w : Write A) (s : State S A) (free : List S) → 0 < length (s .levels) → none free ≡ false
         → sum g free ≡ sum g (displaced t w s) + sum g (s .free) → weight g (enter-at t w s free) ≡ weight g s
     unfolding enter-at sum
     enter-at-weight t w s [] p h e = absurd (true≢false h)
     enter-at-weight t w s (x ∷ free) p h e =
-        omega (arith, sum-set (weigh-level g) (s .levels) 0 (merged (single x t w) (level 0 s)) empty p, weigh-merged (single x t w) (level 0 s),
-          ap (sum g) (gone-single x t w (level 0 s)), weigh-single x t w)
+        omega (
+          arith,
+          sum-set (weigh-level g) (s .levels) 0 (merged (single x t w) (level 0 s)) empty p,
+          weigh-merged (single x t w) (level 0 s),
+          ap (sum g) (gone-single x t w (level 0 s)),
+          weigh-single x t w,
+        )
 
     pub enter-weight : (t : ℕ) (w : Write A) (s : State S A) → 0 < length (s .levels) → none (release (displaced t w s) (s .free)) ≡ false → weight g (enter t w s) ≡ weight g s
     unfolding enter
@@ -114,8 +129,12 @@ module _ {S : Type 0} (g : S → ℕ) where
     wipe-weight u i s h =
         let ps : List (Point S A) = level i s .points in
         set-points-weight i (reject (point-goes u) ps) s (release (point-slots (select (point-goes u) ps)) (s .free)) h
-        (omega (arith, sum-select (λ p. g (p .slot)) (point-goes u) ps, sum-map g (λ (p : Point S A). p .slot) (select (point-goes u) ps),
-          sum-reverse g (point-slots (select (point-goes u) ps)) (s .free)))
+        (omega (
+          arith,
+          sum-select (λ p. g (p .slot)) (point-goes u) ps,
+          sum-map g (λ (p : Point S A). p .slot) (select (point-goes u) ps),
+          sum-reverse g (point-slots (select (point-goes u) ps)) (s .free),
+        ))
 
     overwrite-slot : (k : ℕ) (a : A) (t : ℕ) (p : Point S A) → overwrite k a t p .slot ≡ p .slot
     overwrite-slot k a t p = cond-elim (λ (q : Point S A). q .slot ≡ p .slot) (eqb (p .key) k) _ p (λ e. refl) (λ e. refl)

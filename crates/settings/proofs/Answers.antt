@@ -1,7 +1,8 @@
 -- What the constructor and the methods answer, case by case.
-use mathlib.Core.Path.{_≡_}
-use mathlib.Core.Bool.{true, false}
+use mathlib.Core.Path.{_≡_, refl}
+use mathlib.Core.Bool.{Bool, true, false}
 use Prim.Native.Nat.{ℕ}
+use native.Mathlib.Omega.{arith}
 use Rattle.settings.specs.declared.Settings.{Settings}
 use Rattle.settings.specs.declared.Checked.the-variants.{Accepted, Refused}
 use Rattle.settings.specs.declared.Bound.the-variants.{Is, Nothing}
@@ -16,6 +17,24 @@ module _ (s : Settings) where
   pub checked-refused : allowed s ≡ false → checkedOf s ≡ Refused 6
   unfolding checkedOf
   checked-refused e = rw e
+
+  -- What the answer tells.
+  pub refused-settings : (k : ℕ) → checkedOf s ≡ Refused k → allowed s ≡ false
+  refused-settings k r = go (allowed s) refl
+    where
+      go : (b : Bool) → allowed s ≡ b → allowed s ≡ false
+      go true a = let b = checked-accepted a in let z : _≡_ {A = ℕ} 0 1 = cc in absurd (omega arith)
+      go false a = a
+
+  pub accepted-settings : (t : Settings) → checkedOf s ≡ Accepted t → allowed s ≡ true
+  accepted-settings t r = go (allowed s) refl
+    where
+      go : (b : Bool) → allowed s ≡ b → allowed s ≡ true
+      go true a = a
+      go false a = let b = checked-refused a in let z : _≡_ {A = ℕ} 0 1 = cc in absurd (omega arith)
+
+  pub accepted-same : (t : Settings) → checkedOf s ≡ Accepted t → t ≡ s
+  accepted-same t r = let b = checked-accepted (accepted-settings t r) in cc
 
 module _ (s : Settings) (i : ℕ) where
   pub limitOf-inner : inner s i ≡ true → limitOf s i ≡ Is (limit s i)

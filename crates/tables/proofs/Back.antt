@@ -64,9 +64,10 @@ Short k (c ∷ cs) = (length c ≤ k) × Short k cs
 
 short-all : (k : ℕ) (cs : List (List Cell)) → length (chain-slots cs) ≤ k → Short k cs
 short-all k [] h = tt
-short-all k (c ∷ cs) h =
-    (omega (arith, length-append (cell-slots c) (chain-slots cs), length-map c (λ (x : Cell). x .slot))
-    , short-all k cs (omega (arith, length-append (cell-slots c) (chain-slots cs))))
+short-all k (c ∷ cs) h = (
+  omega (arith, length-append (cell-slots c) (chain-slots cs), length-map c (λ (x : Cell). x .slot)),
+  short-all k cs (omega (arith, length-append (cell-slots c) (chain-slots cs))),
+)
 
 -- Reading a level, and all levels, of a table that holds their chains.
 module _ (n : ℕ) (small : n < 65536) (clock : ℕ) (e l : List ℕ) where
@@ -74,11 +75,11 @@ module _ (n : ℕ) (small : n < 65536) (clock : ℕ) (e l : List ℕ) where
       → length (map point-cell (v .points)) ≤ length e → length (map range-cell (v .ranges)) ≤ length e → read-level e l i ≡ v
   level-back i v f r cp cr lp lr =
       let ps : map (read-point e) (chain-from e (level-row l i .w0)) ≡ v .points =
-            ap (λ (x : Row). map (read-point e) (chain-from e (x .w0))) r
-            ∙ ap (map (read-point e)) (chain-reads n (length e) e (map point-cell (v .points)) small cp lp) ∙ points-back n e small (v .points) (f .keys) cp in
+      ap (λ (x : Row). map (read-point e) (chain-from e (x .w0))) r
+      ∙ ap (map (read-point e)) (chain-reads n (length e) e (map point-cell (v .points)) small cp lp) ∙ points-back n e small (v .points) (f .keys) cp in
       let rs : map (read-range e) (chain-from e (level-row l i .w1)) ≡ v .ranges =
-            ap (λ (x : Row). map (read-range e) (chain-from e (x .w1))) r
-            ∙ ap (map (read-range e)) (chain-reads n (length e) e (map range-cell (v .ranges)) small cr lr) ∙ ranges-back n e small (v .ranges) (f .spans) cr in
+      ap (λ (x : Row). map (read-range e) (chain-from e (x .w1))) r
+      ∙ ap (map (read-range e)) (chain-reads n (length e) e (map range-cell (v .ranges)) small cr lr) ∙ ranges-back n e small (v .ranges) (f .spans) cr in
       rw (ps, rs, ap (λ (x : Row). x .w3) r)
 
   levels-back : (vs : List (Level ℕ ℕ)) (i : ℕ) → ((m : ℕ) → m < length vs → level-row l (i + m) ≡ row-of-level (getD vs m empty)) → All (LevelFormed clock) vs
@@ -88,7 +89,7 @@ module _ (n : ℕ) (small : n < 65536) (clock : ℕ) (e l : List ℕ) where
   levels-back (v ∷ vs) i rows f c s =
       let here : level-row l i ≡ row-of-level v = ap (level-row l) (omega arith) ∙ rows 0 (omega arith) in
       let rest : read-levels e l (length vs) (suc i) ≡ vs =
-            levels-back vs (suc i) (λ m h. ap (level-row l) (omega arith) ∙ rows (suc m) (omega arith)) (f .1) (c .1 .1) (s .1 .1) in
+      levels-back vs (suc i) (λ m h. ap (level-row l) (omega arith) ∙ rows (suc m) (omega arith)) (f .1) (c .1 .1) (s .1 .1) in
       rw (level-back i v (f .0) here (c .0) (c .1 .0) (s .0) (s .1 .0), rest)
 
 module _ (n : ℕ) (p : State ℕ ℕ) (f : Formed n p) where
@@ -99,11 +100,11 @@ module _ (n : ℕ) (p : State ℕ ℕ) (f : Formed n p) where
       let small : n < 65536 = omega (arith, f .many) in
       let short : Short (length e) (all-chains p) = short-all (length e) (all-chains p) (omega (arith, formed-once n p f .number, h .room)) in
       let free≡ : chain-from e (first-free e) ≡ p .free =
-            ap (λ (r : Row). chain-from e (r .w0)) (h .first) ∙ chain-reads n (length e) e (map free-cell (p .free)) small (h .each .0) (short .0) ∙ free-slots-back (p .free) in
+      ap (λ (r : Row). chain-from e (r .w0)) (h .first) ∙ chain-reads n (length e) e (map free-cell (p .free)) small (h .each .0) (short .0) ∙ free-slots-back (p .free) in
       let clock≡ : clock-of e ≡ p .clock = ap (λ (r : Row). r .w1) (h .first) in
       let levels≡ : read-levels e (level-words p) (suc (settings-of (level-words p) .deepest)) 0 ≡ p .levels =
-            ap (λ k. read-levels e (level-words p) k 0) (ap (λ (s : Settings). suc (s .deepest)) (settings-back p) ∙ sym (f .size))
-            ∙ levels-back n small (p .clock) e (level-words p) (p .levels) 0 (λ m b. ap (level-row (level-words p)) (omega arith) ∙ level-row-at p m b) (f .levels-ok) (h .each .1) (short .1) in
+      ap (λ k. read-levels e (level-words p) k 0) (ap (λ (s : Settings). suc (s .deepest)) (settings-back p) ∙ sym (f .size))
+      ∙ levels-back n small (p .clock) e (level-words p) (p .levels) 0 (λ m b. ap (level-row (level-words p)) (omega arith) ∙ level-row-at p m b) (f .levels-ok) (h .each .1) (short .1) in
       rw (levels≡, settings-back p, free≡, clock≡)
 
   -- "Reading what was written gives the state back".

@@ -39,9 +39,19 @@ unfolding table-refusal entries-fit levels-fit chains-sound
 facts-sound e l f =
     let n : ℕ = slots-of e in
     let d : ℕ = settings-of l .deepest in
-    rw (eq-eqb (length e) (4 * (n + 1)) (f .length-entries), le-leb 1 n (f .few), le-leb n 65535 (f .many), eq-eqb (length l) (4 * (d + 2)) (f .length-levels), f .settings-ok,
-        f .third, f .fourth, all-every-true (is-free e) (free-chain e) (f .free-forms), levels-all e l (suc d) 0 (λ m a b. f .levels m (omega arith)), f .deepest-owes-nothing,
-        facts-once n (free-chain e ++ record-slots e l (suc d) 0) (f .once))
+    rw (
+      eq-eqb (length e) (4 * (n + 1)) (f .length-entries),
+      le-leb 1 n (f .few),
+      le-leb n 65535 (f .many),
+      eq-eqb (length l) (4 * (d + 2)) (f .length-levels),
+      f .settings-ok,
+      f .third,
+      f .fourth,
+      all-every-true (is-free e) (free-chain e) (f .free-forms),
+      levels-all e l (suc d) 0 (λ m a b. f .levels m (omega arith)),
+      f .deepest-owes-nothing,
+      facts-once n (free-chain e ++ record-slots e l (suc d) 0) (f .once),
+    )
 
 -- The chains of level i.
 chained-at : (n : ℕ) (e : List ℕ) (ls : List (Level ℕ ℕ)) (i : ℕ) → AllChained n e (level-chains ls) → (Chained n e (map point-cell (getD ls i empty .points))) × (Chained n e (map range-cell (getD ls i empty .ranges)))
@@ -122,20 +132,21 @@ module _ (n : ℕ) (p : State ℕ ℕ) (f : Formed n p) (e : List ℕ) (h : Hold
     none-length (x ∷ xs) q = let z : _≡_ {A = ℕ} 0 1 = cc in absurd (omega arith)
 
     pub level-is-sound : LevelSound e (level-words p) i
-    level-is-sound = record
-      { point-forms = rw points≡ (chained-all n e small point-cell _ (λ q. q .key ≤ 65535) (λ q k l m r. point-form n e small q k l m r) (v .points) (g .keys) cp)
-      ; point-order = rw points≡ (points-order n e small (v .points) 0 (g .keys) (g .points-ascend) (all-every _ (λ q. omega arith) (v .points)) cp)
-      ; range-forms = rw ranges≡ (chained-all n e small range-cell _ (λ r. (r .lo ≤ r .hi) × (r .hi ≤ 65535)) (λ q k l m r. range-form n e small q k l m r) (v .ranges) (g .spans) cr)
-      ; range-order = rw ranges≡ (ranges-order n e small (v .ranges) 0 (g .spans) (g .ranges-ascend) (all-every _ (λ r. omega arith) (v .ranges)) cr)
-      ; stamps = rw (points≡, ranges≡) (all-append _ (cell-slots (map point-cell (v .points))) (cell-slots (map range-cell (v .ranges)))
+    level-is-sound = record {
+      point-forms = rw points≡ (chained-all n e small point-cell _ (λ q. q .key ≤ 65535) (λ q k l m r. point-form n e small q k l m r) (v .points) (g .keys) cp);
+      point-order = rw points≡ (points-order n e small (v .points) 0 (g .keys) (g .points-ascend) (all-every _ (λ q. omega arith) (v .points)) cp);
+      range-forms = rw ranges≡ (chained-all n e small range-cell _ (λ r. (r .lo ≤ r .hi) × (r .hi ≤ 65535)) (λ q k l m r. range-form n e small q k l m r) (v .ranges) (g .spans) cr);
+      range-order = rw ranges≡ (ranges-order n e small (v .ranges) 0 (g .spans) (g .ranges-ascend) (all-every _ (λ r. omega arith) (v .ranges)) cr);
+      stamps = rw (points≡, ranges≡) (all-append _ (cell-slots (map point-cell (v .points))) (cell-slots (map range-cell (v .ranges)))
           (chained-all n e small point-cell _ (λ q. (1 ≤ q .stamp) × (q .stamp ≤ p .clock)) (λ q k l m r. stamp-form n e small (point-cell q) k l (m .0, rw clock≡ (m .1)) r) (v .points) (g .point-stamps) cp)
-          (chained-all n e small range-cell _ (λ q. (1 ≤ q .stamp) × (q .stamp ≤ p .clock)) (λ q k l m r. stamp-form n e small (range-cell q) k l (m .0, rw clock≡ (m .1)) r) (v .ranges) (g .range-stamps) cr))
-      ; owes = rw (points≡, ranges≡, owed≡) (all-append _ (cell-slots (map point-cell (v .points))) (cell-slots (map range-cell (v .ranges)))
+          (chained-all n e small range-cell _ (λ q. (1 ≤ q .stamp) × (q .stamp ≤ p .clock)) (λ q k l m r. stamp-form n e small (range-cell q) k l (m .0, rw clock≡ (m .1)) r) (v .ranges) (g .range-stamps) cr));
+      owes = rw (points≡, ranges≡, owed≡) (all-append _ (cell-slots (map point-cell (v .points))) (cell-slots (map range-cell (v .ranges)))
           (chained-all n e small point-cell _ (λ q. is-put (q .entry) ≡ false → (1 ≤ v .owed) × (v .owed ≤ q .stamp)) (λ q k l m r. owed-form n e small (point-cell q) (v .owed) k l (λ z. m (put-one (q .entry) z)) r) (v .points) (g .owed-points) cp)
-          (chained-all n e small range-cell _ (λ q. (1 ≤ v .owed) × (v .owed ≤ q .stamp)) (λ q k l m r. owed-form n e small (range-cell q) (v .owed) k l (λ z. m) r) (v .ranges) (g .owed-ranges) cr))
-      ; number = number≡ ∙ sym lengths ∙ rw (points≡, ranges≡)
-      ; owed-clock = rw (owed≡, clock≡) (g .owed-clock)
-      ; owed-empty = rw (points≡, ranges≡, owed≡) (λ q. g .owed-empty (sym lengths ∙ none-length (cell-slots (map point-cell (v .points)) ++ cell-slots (map range-cell (v .ranges))) q)) }
+          (chained-all n e small range-cell _ (λ q. (1 ≤ v .owed) × (v .owed ≤ q .stamp)) (λ q k l m r. owed-form n e small (range-cell q) (v .owed) k l (λ z. m) r) (v .ranges) (g .owed-ranges) cr));
+      number = number≡ ∙ sym lengths ∙ rw (points≡, ranges≡);
+      owed-clock = rw (owed≡, clock≡) (g .owed-clock);
+      owed-empty = rw (points≡, ranges≡, owed≡) (λ q. g .owed-empty (sym lengths ∙ none-length (cell-slots (map point-cell (v .points)) ++ cell-slots (map range-cell (v .ranges))) q));
+    }
 
   slots≡ : slots-of e ≡ n
   slots≡ = omega (arith, h .room)
@@ -148,19 +159,20 @@ module _ (n : ℕ) (p : State ℕ ℕ) (f : Formed n p) (e : List ℕ) (h : Hold
 
   -- Tables that hold a formed state's chains are sound.
   pub formed-sound : Sound e (level-words p)
-  formed-sound = record
-    { length-entries = h .room ∙ ap (λ k. 4 * (k + 1)) (sym slots≡)
-    ; few = rw slots≡ (f .few)
-    ; many = rw slots≡ (f .many)
-    ; length-levels = length-level-words p ∙ omega (arith, f .size, deepest≡)
-    ; settings-ok = rw (settings-back p) (f .settings-ok)
-    ; third = ap (λ (r : Row). r .w2) (h .first)
-    ; fourth = ap (λ (r : Row). r .w3) (h .first)
-    ; free-forms = rw (free≡ ∙ sym (free-slots-back (p .free)))
-        (chained-all n e small free-cell _ (λ s. Unit {0}) (λ s k l m r. free-form n e small s k l r) (p .free) (all-every _ (λ s. tt) (p .free)) (h .each .0))
-    ; levels = λ i b. level-is-sound i (rw deepest≡ at b)
-    ; deepest-owes-nothing = ap (λ k. level-row words k .w3) deepest≡ ∙ ap (λ (r : Row). r .w3) (level-row-at p (p .settings .deepest) (omega (arith, f .size))) ∙ f .deepest-owes-nothing
-    ; once = rw (slots≡, free≡, records≡) (once-facts n (p .free ++ levels-slots (p .levels)) (f .slots-once)) }
+  formed-sound = record {
+    length-entries = h .room ∙ ap (λ k. 4 * (k + 1)) (sym slots≡);
+    few = rw slots≡ (f .few);
+    many = rw slots≡ (f .many);
+    length-levels = length-level-words p ∙ omega (arith, f .size, deepest≡);
+    settings-ok = rw (settings-back p) (f .settings-ok);
+    third = ap (λ (r : Row). r .w2) (h .first);
+    fourth = ap (λ (r : Row). r .w3) (h .first);
+    free-forms = rw (free≡ ∙ sym (free-slots-back (p .free)))
+        (chained-all n e small free-cell _ (λ s. Unit {0}) (λ s k l m r. free-form n e small s k l r) (p .free) (all-every _ (λ s. tt) (p .free)) (h .each .0));
+    levels = λ i b. level-is-sound i (rw deepest≡ at b);
+    deepest-owes-nothing = ap (λ k. level-row words k .w3) deepest≡ ∙ ap (λ (r : Row). r .w3) (level-row-at p (p .settings .deepest) (omega (arith, f .size))) ∙ f .deepest-owes-nothing;
+    once = rw (slots≡, free≡, records≡) (once-facts n (p .free ++ levels-slots (p .levels)) (f .slots-once));
+  }
 
 -- The words of a formed state meet no refusal.
 pub words-sound : (n : ℕ) (p : State ℕ ℕ) → Formed n p → table-refusal (entry-words n p) (level-words p) ≡ 0

@@ -24,18 +24,22 @@ module _ (n s : ℕ) (e : List ℕ) (r : Row) where
 
   pub all-off : (cs : List (List Cell)) → times s (chain-slots cs) ≡ 0 → AllChained n e cs → AllChained n (set-row e s r) cs
   all-off [] z h = tt
-  all-off (c ∷ cs) z h =
-      (chained-off c (omega (arith, times-append s (cell-slots c) (chain-slots cs))) (h .0)
-      , all-off cs (omega (arith, times-append s (cell-slots c) (chain-slots cs))) (h .1))
+  all-off (c ∷ cs) z h = (
+    chained-off c (omega (arith, times-append s (cell-slots c) (chain-slots cs))) (h .0),
+    all-off cs (omega (arith, times-append s (cell-slots c) (chain-slots cs))) (h .1),
+  )
 
 -- A chain laid is there, if no slot stands twice in it.
 lay-chained : (n : ℕ) (e : List ℕ) (cs : List Cell) → length e ≡ 4 * (n + 1) → Slots n cs → ((s : ℕ) → times s (cell-slots cs) ≤ 1) → Chained n (lay e cs) cs
 unfolding lay
 lay-chained n e [] l b h = tt
 lay-chained n e (c ∷ cs) l b h =
-    let rest : Chained n (lay e cs) cs = lay-chained n e cs l (b .2) (λ s. tail s (ℕ-discrete s (c .slot))) in
-    (b .0, b .1, row-same (lay e cs) (c .slot) (cell-row (head cs) c) (omega (arith, length-lay e cs, b .1))
-    , chained-off n (c .slot) (lay e cs) (cell-row (head cs) c) cs (omega (arith, h (c .slot), times-head (c .slot) (cell-slots cs))) rest)
+    let rest : Chained n (lay e cs) cs = lay-chained n e cs l (b .2) (λ s. tail s (ℕ-discrete s (c .slot))) in (
+      b .0,
+      b .1,
+      row-same (lay e cs) (c .slot) (cell-row (head cs) c) (omega (arith, length-lay e cs, b .1)),
+      chained-off n (c .slot) (lay e cs) (cell-row (head cs) c) cs (omega (arith, h (c .slot), times-head (c .slot) (cell-slots cs))) rest,
+    )
   where
     tail : (s : ℕ) → Dec (s ≡ c .slot) → times s (cell-slots cs) ≤ 1
     tail s (yes q) = omega (arith, h s, ap (λ t. times s (t ∷ cell-slots cs)) (sym q), times-head s (cell-slots cs))
@@ -57,9 +61,10 @@ lay-all-chained : (n : ℕ) (e : List ℕ) (cs : List (List Cell)) → length e 
 unfolding lay-all
 lay-all-chained n e [] l b h = tt
 lay-all-chained n e (c ∷ cs) l b h =
-    let sum : (s : ℕ) → times s (cell-slots c) + times s (chain-slots cs) ≤ 1 = λ s. omega (arith, h s, times-append s (cell-slots c) (chain-slots cs)) in
-    (lay-chained n (lay-all e cs) c (length-lay-all e cs ∙ l) (b .0) (λ s. omega (arith, sum s))
-    , lay-off n (lay-all e cs) c cs sum (lay-all-chained n e cs l (b .1) (λ s. omega (arith, sum s))))
+    let sum : (s : ℕ) → times s (cell-slots c) + times s (chain-slots cs) ≤ 1 = λ s. omega (arith, h s, times-append s (cell-slots c) (chain-slots cs)) in (
+      lay-chained n (lay-all e cs) c (length-lay-all e cs ∙ l) (b .0) (λ s. omega (arith, sum s)),
+      lay-off n (lay-all e cs) c cs sum (lay-all-chained n e cs l (b .1) (λ s. omega (arith, sum s))),
+    )
 
 -- No cell has slot 0.
 no-zero : (n : ℕ) (cs : List Cell) → Slots n cs → times 0 (cell-slots cs) ≡ 0
@@ -83,7 +88,8 @@ words-hold n p b h =
     let base : List ℕ = lay-all zeros (all-chains p) in
     let l : length zeros ≡ 4 * (n + 1) = length-replicate (4 * (n + 1)) 0 in
     let lb : length base ≡ 4 * (n + 1) = length-lay-all zeros (all-chains p) ∙ l in
-    record
-      { room = length-set-row base 0 (top-row p) ∙ lb
-      ; first = row-same base 0 (top-row p) (omega arith)
-      ; each = all-off n 0 base (top-row p) (all-chains p) (no-zeros n (all-chains p) b) (lay-all-chained n zeros (all-chains p) l b h) }
+    record {
+      room = length-set-row base 0 (top-row p) ∙ lb;
+      first = row-same base 0 (top-row p) (omega arith);
+      each = all-off n 0 base (top-row p) (all-chains p) (no-zeros n (all-chains p) b) (lay-all-chained n zeros (all-chains p) l b h);
+    }

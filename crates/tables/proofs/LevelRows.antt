@@ -7,6 +7,7 @@ use lib.ListN.{length, getD, length-map, List·getD-map}
 use Rattle.model.specs.Records.{State, empty}
 use Rattle.tables.specs.Words.{Row, row-of, settings-of, level-row}
 use Rattle.tables.specs.Placed.{row-words, row-of-level, level-words}
+use Rattle.tables.proofs.Rows.{row-rest}
 
 pub length-row-words : (rs : List Row) → length (row-words rs) ≡ 4 * length rs
 unfolding row-words
@@ -19,11 +20,8 @@ unfolding row-words
 row-words-at [] i d h = absurd (omega arith)
 row-words-at (r ∷ rs) zero d h = refl
 row-words-at (r ∷ rs) (suc i) d h =
-    let q0 : 4 * suc i ≡ suc (suc (suc (suc (4 * i)))) = omega arith in
-    let q1 : 4 * suc i + 1 ≡ suc (suc (suc (suc (4 * i + 1)))) = omega arith in
-    let q2 : 4 * suc i + 2 ≡ suc (suc (suc (suc (4 * i + 2)))) = omega arith in
-    let q3 : 4 * suc i + 3 ≡ suc (suc (suc (suc (4 * i + 3)))) = omega arith in
-    rw (q3, q2, q1, q0) (row-words-at rs i d (omega arith))
+    let one : suc i ≡ i + 1 = omega arith in
+    rw one (row-rest (r .w0) (r .w1) (r .w2) (r .w3) (row-words rs) i ∙ row-words-at rs i d (omega arith))
 
 module _ (p : State ℕ ℕ) where
   pub length-level-words : length (level-words p) ≡ 4 * (length (p .levels) + 1)
@@ -39,4 +37,4 @@ module _ (p : State ℕ ℕ) where
   level-row-at i h =
       let one : i + 1 ≡ suc i = omega arith in
       rw one (row-words-at (_ ∷ map row-of-level (p .levels)) (suc i) (row-of-level empty) (omega (arith, length-map (p .levels) row-of-level))
-        ∙ List·getD-map row-of-level (p .levels) i empty)
+      ∙ List·getD-map row-of-level (p .levels) i empty)

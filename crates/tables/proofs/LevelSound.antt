@@ -58,23 +58,31 @@ module _ (e l : List ℕ) (i : ℕ) where
       let h4 = and-left (a1 && a2 && (a3 && a4)) a5 h5 in
       let h2 = and-left (a1 && a2) (a3 && a4) h4 in
       let h34 = and-right (a1 && a2) (a3 && a4) h4 in
-      record
-        { point-forms = every-all (is-point e) points (and-left a1 a2 h2)
-        ; point-order = and-right a1 a2 h2
-        ; range-forms = every-all (is-range e) ranges (and-left a3 a4 h34)
-        ; range-order = and-right a3 a4 h34
-        ; stamps = every-all (is-stamped e) (points ++ ranges) (and-right (a1 && a2 && (a3 && a4)) a5 h5)
-        ; owes = every-all (owed-before e owed) (points ++ ranges) (and-right (a1 && a2 && (a3 && a4) && a5) a6 h6)
-        ; number = eqb-true (level-row l i .w2) (length (points ++ ranges)) (and-right (a1 && a2 && (a3 && a4) && a5 && a6) a7 h7)
-        ; owed-clock = leb-true owed (clock-of e) (and-right (a1 && a2 && (a3 && a4) && a5 && a6 && a7) a8 h8)
-        ; owed-empty = λ n. eqb-true owed 0 (or-second (not (none (points ++ ranges))) (eqb owed 0) (and-right (a1 && a2 && (a3 && a4) && a5 && a6 && a7 && a8) a9 h) (ap not n)) }
+      record {
+        point-forms = every-all (is-point e) points (and-left a1 a2 h2);
+        point-order = and-right a1 a2 h2;
+        range-forms = every-all (is-range e) ranges (and-left a3 a4 h34);
+        range-order = and-right a3 a4 h34;
+        stamps = every-all (is-stamped e) (points ++ ranges) (and-right (a1 && a2 && (a3 && a4)) a5 h5);
+        owes = every-all (owed-before e owed) (points ++ ranges) (and-right (a1 && a2 && (a3 && a4) && a5) a6 h6);
+        number = eqb-true (level-row l i .w2) (length (points ++ ranges)) (and-right (a1 && a2 && (a3 && a4) && a5 && a6) a7 h7);
+        owed-clock = leb-true owed (clock-of e) (and-right (a1 && a2 && (a3 && a4) && a5 && a6 && a7) a8 h8);
+        owed-empty = λ n. eqb-true owed 0 (or-second (not (none (points ++ ranges))) (eqb owed 0) (and-right (a1 && a2 && (a3 && a4) && a5 && a6 && a7 && a8) a9 h) (ap not n));
+      }
 
   pub facts-level : LevelSound → level-sound e l i ≡ true
   unfolding level-sound
   facts-level f =
-      rw (all-every-true (is-point e) points (f .point-forms), f .point-order, all-every-true (is-range e) ranges (f .range-forms), f .range-order,
-          all-every-true (is-stamped e) (points ++ ranges) (f .stamps), all-every-true (owed-before e owed) (points ++ ranges) (f .owes),
-          eq-eqb (level-row l i .w2) (length (points ++ ranges)) (f .number), le-leb owed (clock-of e) (f .owed-clock))
+      rw (
+        all-every-true (is-point e) points (f .point-forms),
+        f .point-order,
+        all-every-true (is-range e) ranges (f .range-forms),
+        f .range-order,
+        all-every-true (is-stamped e) (points ++ ranges) (f .stamps),
+        all-every-true (owed-before e owed) (points ++ ranges) (f .owes),
+        eq-eqb (level-row l i .w2) (length (points ++ ranges)) (f .number),
+        le-leb owed (clock-of e) (f .owed-clock),
+      )
       (by-cases (none (points ++ ranges)) (λ n. or-right (not (none (points ++ ranges))) (eqb owed 0) (eq-eqb owed 0 (f .owed-empty n))) (λ n. or-left (not (none (points ++ ranges))) (eqb owed 0) (ap not n)))
 
 -- Each word of the table fits 32 bits, as those of a lent slice do.
@@ -97,10 +105,11 @@ module _ (e : List ℕ) where
   unfolding ascend
   points-ascend least [] f h = tt
   points-ascend least (s ∷ ss) f h =
-      let rest : ascend e (order-key e s + 1) ss ≡ true = and-right (leb least (order-key e s)) _ h in
-      (all-map (read-point e) (λ q. point-before (read-point e s) q ≡ true) ss
-        (both ss (f .1) (ascend-above e (order-key e s + 1) ss rest))
-      , points-ascend (order-key e s + 1) ss (f .1) rest)
+      let rest : ascend e (order-key e s + 1) ss ≡ true = and-right (leb least (order-key e s)) _ h in (
+        all-map (read-point e) (λ q. point-before (read-point e s) q ≡ true) ss
+            (both ss (f .1) (ascend-above e (order-key e s + 1) ss rest)),
+        points-ascend (order-key e s + 1) ss (f .1) rest,
+      )
     where
       both : (ts : List ℕ) → All (λ t. is-point e t ≡ true) ts → All (λ t. order-key e s + 1 ≤ order-key e t) ts → All (λ t. point-before (read-point e s) (read-point e t) ≡ true) ts
       both [] a b = tt
@@ -112,16 +121,17 @@ module _ (e : List ℕ) where
   range-less : Fits32 e → (s t : ℕ) → order-key e s + 1 ≤ order-key e t → range-before (read-range e s) (read-range e t) ≡ true
   range-less w s t h = by-cases (eqb (lo-of e s) (lo-of e t))
       (λ q. or-right (ltb (lo-of e s) (lo-of e t)) _ (and-intro (eqb (lo-of e s) (lo-of e t)) (ltb (hi-of e s) (hi-of e t)) q
-        (lt-ltb (hi-of e s) (hi-of e t) (omega (arith, eqb-true (lo-of e s) (lo-of e t) q)))))
+      (lt-ltb (hi-of e s) (hi-of e t) (omega (arith, eqb-true (lo-of e s) (lo-of e t) q)))))
       (λ q. or-left (ltb (lo-of e s) (lo-of e t)) _ (lt-ltb (lo-of e s) (lo-of e t) (omega (arith, eqb-false (lo-of e s) (lo-of e t) q, hi-small w s, hi-small w t))))
 
   ranges-ascend : Fits32 e → (least : ℕ) (ss : List ℕ) → ascend e least ss ≡ true → Ascending range-before (map (read-range e) ss)
   unfolding ascend
   ranges-ascend w least [] h = tt
   ranges-ascend w least (s ∷ ss) h =
-      let rest : ascend e (order-key e s + 1) ss ≡ true = and-right (leb least (order-key e s)) _ h in
-      (all-map (read-range e) (λ q. range-before (read-range e s) q ≡ true) ss (all-weaken _ _ (λ t b. range-less w s t b) ss (ascend-above e (order-key e s + 1) ss rest))
-      , ranges-ascend w (order-key e s + 1) ss rest)
+      let rest : ascend e (order-key e s + 1) ss ≡ true = and-right (leb least (order-key e s)) _ h in (
+        all-map (read-range e) (λ q. range-before (read-range e s) q ≡ true) ss (all-weaken _ _ (λ t b. range-less w s t b) ss (ascend-above e (order-key e s + 1) ss rest)),
+        ranges-ascend w (order-key e s + 1) ss rest,
+      )
 
 -- A sound level reads as a formed one.
 module _ (e l : List ℕ) (i : ℕ) (w : Fits32 e) (f : LevelSound e l i) where
@@ -132,9 +142,10 @@ module _ (e l : List ℕ) (i : ℕ) (w : Fits32 e) (f : LevelSound e l i) where
   rs = range-chain e l i
 
   stamped : (s : ℕ) → is-stamped e s ≡ true → (1 ≤ stamp-of e s) × (stamp-of e s ≤ clock-of e)
-  stamped s h =
-      (leb-true 1 (stamp-of e s) (and-left (leb 1 (stamp-of e s)) (leb (stamp-of e s) (clock-of e)) h)
-      , leb-true (stamp-of e s) (clock-of e) (and-right (leb 1 (stamp-of e s)) (leb (stamp-of e s) (clock-of e)) h))
+  stamped s h = (
+    leb-true 1 (stamp-of e s) (and-left (leb 1 (stamp-of e s)) (leb (stamp-of e s) (clock-of e)) h),
+    leb-true (stamp-of e s) (clock-of e) (and-right (leb 1 (stamp-of e s)) (leb (stamp-of e s) (clock-of e)) h),
+  )
 
   -- A record that is no put has the level owing since its stamp or before.
   owing : (s : ℕ) → owed-before e (level-row l i .w3) s ≡ true → eqb (kind-of e s) 1 ≡ false → (1 ≤ level-row l i .w3) × (level-row l i .w3 ≤ stamp-of e s)
@@ -162,14 +173,15 @@ module _ (e l : List ℕ) (i : ℕ) (w : Fits32 e) (f : LevelSound e l i) where
 
   pub level-reads-formed : LevelFormed (clock-of e) (read-level e l i)
   unfolding ps rs
-  level-reads-formed = record
-    { keys = all-map (read-point e) _ ps (all-every _ (λ s. omega arith) ps)
-    ; points-ascend = points-ascend e 0 ps (f .point-forms) (f .point-order)
-    ; spans = all-map (read-range e) _ rs (all-weaken _ _ (λ s h. (leb-true (lo-of e s) (hi-of e s) (and-left (leb (lo-of e s) (hi-of e s)) (eqb (kind-of e s) 3 && eqb (tally-of e s) 0) h), hi-small e w s)) rs (f .range-forms))
-    ; ranges-ascend = ranges-ascend e w 0 rs (f .range-order)
-    ; point-stamps = all-map (read-point e) _ ps (all-weaken _ _ stamped ps (all-left _ ps rs (f .stamps)))
-    ; range-stamps = all-map (read-range e) _ rs (all-weaken _ _ stamped rs (all-right _ ps rs (f .stamps)))
-    ; owed-clock = f .owed-clock
-    ; owed-points = all-map (read-point e) _ ps (all-weaken _ _ (λ s h q. owing s h (put-kind s (eqb (kind-of e s) 1) refl q)) ps (all-left _ ps rs (f .owes)))
-    ; owed-ranges = all-map (read-range e) _ rs (both-ranges rs (f .range-forms) (all-right _ ps rs (f .owes)))
-    ; owed-empty = λ h. f .owed-empty (none-of (ps ++ rs) (omega (arith, length-append ps rs, length-map ps (read-point e), length-map rs (read-range e)))) }
+  level-reads-formed = record {
+    keys = all-map (read-point e) _ ps (all-every _ (λ s. omega arith) ps);
+    points-ascend = points-ascend e 0 ps (f .point-forms) (f .point-order);
+    spans = all-map (read-range e) _ rs (all-weaken _ _ (λ s h. (leb-true (lo-of e s) (hi-of e s) (and-left (leb (lo-of e s) (hi-of e s)) (eqb (kind-of e s) 3 && eqb (tally-of e s) 0) h), hi-small e w s)) rs (f .range-forms));
+    ranges-ascend = ranges-ascend e w 0 rs (f .range-order);
+    point-stamps = all-map (read-point e) _ ps (all-weaken _ _ stamped ps (all-left _ ps rs (f .stamps)));
+    range-stamps = all-map (read-range e) _ rs (all-weaken _ _ stamped rs (all-right _ ps rs (f .stamps)));
+    owed-clock = f .owed-clock;
+    owed-points = all-map (read-point e) _ ps (all-weaken _ _ (λ s h q. owing s h (put-kind s (eqb (kind-of e s) 1) refl q)) ps (all-left _ ps rs (f .owes)));
+    owed-ranges = all-map (read-range e) _ rs (both-ranges rs (f .range-forms) (all-right _ ps rs (f .owes)));
+    owed-empty = λ h. f .owed-empty (none-of (ps ++ rs) (omega (arith, length-append ps rs, length-map ps (read-point e), length-map rs (read-range e))));
+  }

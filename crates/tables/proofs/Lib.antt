@@ -1,5 +1,6 @@
 -- Laws of the tables' words.
 pub mod Rows
+pub mod Lengths
 pub mod Cells
 pub mod Once
 pub mod Lay
@@ -11,3 +12,5 @@ pub mod LevelSound
 pub mod SoundWords
 pub mod WordsSound
 pub mod FormedSound
+pub mod SoundChains
+pub mod Deepest

@@ -77,11 +77,11 @@ module _ (e : List ℕ) (s : ℕ) where
       let kinds = and-right (eqb (lo-of e s) (hi-of e s)) (eqb (kind-of e s) 1 || (eqb (kind-of e s) 2 && eqb (tally-of e s) 0)) h in
       by-cases (eqb (kind-of e s) 1)
       (λ k. let one : kind-of e s ≡ 1 = eqb-true (kind-of e s) 1 k in
-        rebuilt (cell-row (next-of e s) (point-cell (read-point e s))) (rw k (omega arith)) (omega arith) (rw k) refl)
+      rebuilt (cell-row (next-of e s) (point-cell (read-point e s))) (rw k (omega arith)) (omega arith) (rw k) refl)
       (λ k. let two = or-second (eqb (kind-of e s) 1) (eqb (kind-of e s) 2 && eqb (tally-of e s) 0) kinds k in
-        let kind≡ : kind-of e s ≡ 2 = eqb-true (kind-of e s) 2 (and-left (eqb (kind-of e s) 2) (eqb (tally-of e s) 0) two) in
-        let tally≡ : tally-of e s ≡ 0 = eqb-true (tally-of e s) 0 (and-right (eqb (kind-of e s) 2) (eqb (tally-of e s) 0) two) in
-        rebuilt (cell-row (next-of e s) (point-cell (read-point e s))) (rw k (omega arith)) (omega arith) (rw k tally≡) refl)
+      let kind≡ : kind-of e s ≡ 2 = eqb-true (kind-of e s) 2 (and-left (eqb (kind-of e s) 2) (eqb (tally-of e s) 0) two) in
+      let tally≡ : tally-of e s ≡ 0 = eqb-true (tally-of e s) 0 (and-right (eqb (kind-of e s) 2) (eqb (tally-of e s) 0) two) in
+      rebuilt (cell-row (next-of e s) (point-cell (read-point e s))) (rw k (omega arith)) (omega arith) (rw k tally≡) refl)
 
   pub range-written : is-range e s ≡ true → row-of e s ≡ cell-row (next-of e s) (range-cell (read-range e s))
   range-written h =

@@ -31,7 +31,7 @@ pub record OnceFacts (n : ℕ) (ss : List ℕ) : Type 0 where
 
 pub once-facts : (n : ℕ) (ss : List ℕ) → every-slot-once n ss ≡ true → OnceFacts n ss
 once-facts n ss h = record
-  { number = eqb-true (length ss) n (and-left (eqb (length ss) n) (once-each n ss) h); each = once-at n ss (and-right (eqb (length ss) n) (once-each n ss) h) }
+    { number = eqb-true (length ss) n (and-left (eqb (length ss) n) (once-each n ss) h); each = once-at n ss (and-right (eqb (length ss) n) (once-each n ss) h) }
 
 -- How many of the list are from 1 to n, slot by slot: at most all, and then no other stands in it.
 tally-upto : ℕ → List ℕ → ℕ

@@ -1,8 +1,8 @@
 -- A row written is read back, other rows stay, and tables with the same rows are equal.
 use mathlib.Core.Path.{_≡_, sym, ap, _∙_}
 use mathlib.Core.Logic.{_≢_}
-use mathlib.Core.List.{List}
-use Prim.Native.Nat.{ℕ, _+_, _*_, _/_, _%_, _<_, _≤_}
+use mathlib.Core.List.{List, _∷_}
+use Prim.Native.Nat.{ℕ, suc, _+_, _*_, _/_, _%_, _<_, _≤_}
 use native.Mathlib.Omega.{arith}
 use native.Mathlib.Decide.{ℕ-discrete}
 use lib.ListN.{length, getD, length-set}
@@ -28,8 +28,11 @@ set-row-outside e s r i h =
 
 pub row-other : (e : List ℕ) (s : ℕ) (r : Row) (t : ℕ) → s ≢ t → row-of (set-row e s r) t ≡ row-of e t
 row-other e s r t ne = simp (
-    set-row-outside e s r (4 * t) (λ a b. ne (omega arith)), set-row-outside e s r (4 * t + 1) (λ a b. ne (omega arith)),
-    set-row-outside e s r (4 * t + 2) (λ a b. ne (omega arith)), set-row-outside e s r (4 * t + 3) (λ a b. ne (omega arith)))
+  set-row-outside e s r (4 * t) (λ a b. ne (omega arith)),
+  set-row-outside e s r (4 * t + 1) (λ a b. ne (omega arith)),
+  set-row-outside e s r (4 * t + 2) (λ a b. ne (omega arith)),
+  set-row-outside e s r (4 * t + 3) (λ a b. ne (omega arith)),
+)
 
 pub row-same : (e : List ℕ) (s : ℕ) (r : Row) → InTable e s → row-of (set-row e s r) s ≡ r
 unfolding set-row
@@ -54,8 +57,18 @@ rows-equal n e f l m h = ext-getD 0 e f (l ∙ sym m) at
       where
         r : row-of e (i / 4) ≡ row-of f (i / 4)
         r = h (i / 4) (omega arith)
+
         go : Dec (i % 4 ≡ 0) → Dec (i % 4 ≡ 1) → Dec (i % 4 ≡ 2) → getD e i 0 ≡ getD f i 0
         go (yes a) y z = let q : i ≡ 4 * (i / 4) = omega arith in ap (λ (k : ℕ). getD e k 0) q ∙ ap (λ (w : Row). w .w0) r ∙ ap (λ (k : ℕ). getD f k 0) (sym q)
         go (no a) (yes y) z = let q : i ≡ 4 * (i / 4) + 1 = omega arith in ap (λ (k : ℕ). getD e k 0) q ∙ ap (λ (w : Row). w .w1) r ∙ ap (λ (k : ℕ). getD f k 0) (sym q)
         go (no a) (no y) (yes z) = let q : i ≡ 4 * (i / 4) + 2 = omega arith in ap (λ (k : ℕ). getD e k 0) q ∙ ap (λ (w : Row). w .w2) r ∙ ap (λ (k : ℕ). getD f k 0) (sym q)
         go (no a) (no y) (no z) = let q : i ≡ 4 * (i / 4) + 3 = omega arith in ap (λ (k : ℕ). getD e k 0) q ∙ ap (λ (w : Row). w .w3) r ∙ ap (λ (k : ℕ). getD f k 0) (sym q)
+
+-- Past the first four words the rows are those of the rest.
+pub row-rest : (a b c d : ℕ) (ws : List ℕ) (i : ℕ) → row-of (a ∷ b ∷ c ∷ d ∷ ws) (i + 1) ≡ row-of ws i
+row-rest a b c d ws i =
+    let q0 : 4 * (i + 1) ≡ suc (suc (suc (suc (4 * i)))) = omega arith in
+    let q1 : 4 * (i + 1) + 1 ≡ suc (suc (suc (suc (4 * i + 1)))) = omega arith in
+    let q2 : 4 * (i + 1) + 2 ≡ suc (suc (suc (suc (4 * i + 2)))) = omega arith in
+    let q3 : 4 * (i + 1) + 3 ≡ suc (suc (suc (suc (4 * i + 3)))) = omega arith in
+    rw (q1, q2, q3, q0)

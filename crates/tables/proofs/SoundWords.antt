@@ -75,18 +75,19 @@ sound-facts e l h =
     let c3 = and-left (b1 && b2 && b3) b4 c4 in
     let c2 = and-left (b1 && b2) b3 c3 in
     let sizes = and-right (eqb (length e) (4 * (n + 1))) (within 1 n 65535) (parts .0) in
-    record
-      { length-entries = eqb-true (length e) (4 * (n + 1)) (and-left (eqb (length e) (4 * (n + 1))) (within 1 n 65535) (parts .0))
-      ; few = leb-true 1 n (and-left (leb 1 n) (leb n 65535) sizes)
-      ; many = leb-true n 65535 (and-right (leb 1 n) (leb n 65535) sizes)
-      ; length-levels = eqb-true (length l) (4 * (d + 2)) (and-left (eqb (length l) (4 * (d + 2))) (allowed (settings-of l)) (parts .1))
-      ; settings-ok = and-right (eqb (length l) (4 * (d + 2))) (allowed (settings-of l)) (parts .1)
-      ; third = eqb-true (row-of e 0 .w2) 0 (and-left b1 b2 c2)
-      ; fourth = eqb-true (row-of e 0 .w3) 0 (and-right b1 b2 c2)
-      ; free-forms = every-all (is-free e) (free-chain e) (and-right (b1 && b2) b3 c3)
-      ; levels = λ i k. level-facts e l i (levels-at e l (suc d) 0 i (and-right (b1 && b2 && b3) b4 c4) (omega arith) (omega arith))
-      ; deepest-owes-nothing = eqb-true (level-row l d .w3) 0 (and-right (b1 && b2 && b3 && b4) b5 c5)
-      ; once = once-facts n (free-chain e ++ record-slots e l (suc d) 0) (and-right (b1 && b2 && b3 && b4 && b5) b6 (parts .2)) }
+    record {
+      length-entries = eqb-true (length e) (4 * (n + 1)) (and-left (eqb (length e) (4 * (n + 1))) (within 1 n 65535) (parts .0));
+      few = leb-true 1 n (and-left (leb 1 n) (leb n 65535) sizes);
+      many = leb-true n 65535 (and-right (leb 1 n) (leb n 65535) sizes);
+      length-levels = eqb-true (length l) (4 * (d + 2)) (and-left (eqb (length l) (4 * (d + 2))) (allowed (settings-of l)) (parts .1));
+      settings-ok = and-right (eqb (length l) (4 * (d + 2))) (allowed (settings-of l)) (parts .1);
+      third = eqb-true (row-of e 0 .w2) 0 (and-left b1 b2 c2);
+      fourth = eqb-true (row-of e 0 .w3) 0 (and-right b1 b2 c2);
+      free-forms = every-all (is-free e) (free-chain e) (and-right (b1 && b2) b3 c3);
+      levels = λ i k. level-facts e l i (levels-at e l (suc d) 0 i (and-right (b1 && b2 && b3) b4 c4) (omega arith) (omega arith));
+      deepest-owes-nothing = eqb-true (level-row l d .w3) 0 (and-right (b1 && b2 && b3 && b4) b5 c5);
+      once = once-facts n (free-chain e ++ record-slots e l (suc d) 0) (and-right (b1 && b2 && b3 && b4 && b5) b6 (parts .2));
+    }
 
 -- The slots of what is read are the slots of the chains.
 pub point-read-slots : (e ss : List ℕ) → point-slots (map (read-point e) ss) ≡ ss
@@ -146,16 +147,17 @@ module _ (e l : List ℕ) (w : Fits32 e) (f : Sound e l) where
 
   pub sound-formed : Formed (slots-of e) (read-state e l)
   unfolding read-state deepest
-  sound-formed = record
-    { few = f .few
-    ; many = f .many
-    ; settings-ok = f .settings-ok
-    ; size = length-read-levels e l (suc (settings-of l .deepest)) 0
-    ; levels-ok = levels-formed (suc (settings-of l .deepest)) 0 (omega arith)
-    ; deepest-owes-nothing =
+  sound-formed = record {
+    few = f .few;
+    many = f .many;
+    settings-ok = f .settings-ok;
+    size = length-read-levels e l (suc (settings-of l .deepest)) 0;
+    levels-ok = levels-formed (suc (settings-of l .deepest)) 0 (omega arith);
+    deepest-owes-nothing =
         ap (λ (v : Level ℕ ℕ). v .owed) (read-levels-at e l (suc (settings-of l .deepest)) 0 (settings-of l .deepest) (omega arith))
-        ∙ ap (λ k. level-row l k .w3) (omega arith) ∙ f .deepest-owes-nothing
-    ; slots-once = rw (read-slots e l (suc (settings-of l .deepest)) 0) (facts-once (slots-of e) (free-chain e ++ record-slots e l (suc (settings-of l .deepest)) 0) (f .once)) }
+        ∙ ap (λ k. level-row l k .w3) (omega arith) ∙ f .deepest-owes-nothing;
+    slots-once = rw (read-slots e l (suc (settings-of l .deepest)) 0) (facts-once (slots-of e) (free-chain e ++ record-slots e l (suc (settings-of l .deepest)) 0) (f .once));
+  }
 
   -- A chain of the table, with the cells that it reads as.
   chain-held : (cell : ℕ → Cell) → ((s : ℕ) → cell s .slot ≡ s) → (h : ℕ) → length (chain-from e h) ≤ n → All (Inside n) (chain-from e h)
@@ -195,11 +197,12 @@ module _ (e l : List ℕ) (w : Fits32 e) (f : Sound e l) where
       let rs : List ℕ = range-chain e l i in
       let p = points-held i k (omega (arith, length-append ps rs)) (all-left (Inside n) ps rs a) in
       let r = ranges-held i k (omega (arith, length-append ps rs)) (all-right (Inside n) ps rs a) in
-      record
-        { points = p .0
-        ; ranges = r .0
-        ; row = row-is (level-row l i) (row-of-level (read-level e l i)) (sym (p .1)) (sym (r .1))
-            (f .levels i k .number ∙ omega (arith, length-append ps rs, length-map ps (read-point e), length-map rs (read-range e))) refl }
+      record {
+        points = p .0;
+        ranges = r .0;
+        row = row-is (level-row l i) (row-of-level (read-level e l i)) (sym (p .1)) (sym (r .1))
+            (f .levels i k .number ∙ omega (arith, length-append ps rs, length-map ps (read-point e), length-map rs (read-range e))) refl;
+      }
     where
       row-is : (x y : Row) → x .w0 ≡ y .w0 → x .w1 ≡ y .w1 → x .w2 ≡ y .w2 → x .w3 ≡ y .w3 → x ≡ y
       row-is x y a b c d = rw (a, b, c, d)
@@ -226,10 +229,11 @@ module _ (e l : List ℕ) (w : Fits32 e) (f : Sound e l) where
 
   pub sound-holds : Holds (slots-of e) (top-row (read-state e l)) (all-chains (read-state e l)) e
   unfolding read-state n
-  sound-holds = record
-    { room = f .length-entries
-    ; first = rw (free-held .1, f .third, f .fourth)
-    ; each = (free-held .0, held-here .0) }
+  sound-holds = record {
+    room = f .length-entries;
+    first = rw (free-held .1, f .third, f .fourth);
+    each = (free-held .0, held-here .0);
+  }
 
   -- The tables are the words of what they read as.
   pub sound-entries : e ≡ entry-words (slots-of e) (read-state e l)

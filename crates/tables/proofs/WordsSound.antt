@@ -41,8 +41,12 @@ module _ (n : ℕ) (e : List ℕ) (small : n < 65536) where
 
   pub free-form : (s next : ℕ) → next ≤ n → row-of e s ≡ cell-row next (free-cell s) → is-free e s ≡ true
   free-form s next b row =
-      rw (eq-eqb (kind-of e s) 0 (cell-kind e n next (free-cell s) small b row), eq-eqb (row-of e s .w1) 0 (cell-span e n next (free-cell s) small b row),
-          eq-eqb (tally-of e s) 0 (cell-tally e n next (free-cell s) small b row), eq-eqb (stamp-of e s) 0 (cell-stamp e n next (free-cell s) small b row))
+      rw (
+        eq-eqb (kind-of e s) 0 (cell-kind e n next (free-cell s) small b row),
+        eq-eqb (row-of e s .w1) 0 (cell-span e n next (free-cell s) small b row),
+        eq-eqb (tally-of e s) 0 (cell-tally e n next (free-cell s) small b row),
+        eq-eqb (stamp-of e s) 0 (cell-stamp e n next (free-cell s) small b row),
+      )
 
   pub point-form : (p : Point ℕ ℕ) (next : ℕ) → next ≤ n → p .key ≤ 65535 → row-of e (p .slot) ≡ cell-row next (point-cell p) → is-point e (p .slot) ≡ true
   point-form p next b k row =
@@ -90,7 +94,7 @@ module _ (n : ℕ) (e : List ℕ) (small : n < 65536) where
   range-above r q b h = by-cases (ltb (r .lo) (q .lo))
       (λ x. omega (arith, ltb-true (r .lo) (q .lo) x))
       (λ x. let y = or-second (ltb (r .lo) (q .lo)) (eqb (r .lo) (q .lo) && ltb (r .hi) (q .hi)) h x in
-        omega (arith, eqb-true (r .lo) (q .lo) (and-left (eqb (r .lo) (q .lo)) (ltb (r .hi) (q .hi)) y), ltb-true (r .hi) (q .hi) (and-right (eqb (r .lo) (q .lo)) (ltb (r .hi) (q .hi)) y)))
+      omega (arith, eqb-true (r .lo) (q .lo) (and-left (eqb (r .lo) (q .lo)) (ltb (r .hi) (q .hi)) y), ltb-true (r .hi) (q .hi) (and-right (eqb (r .lo) (q .lo)) (ltb (r .hi) (q .hi)) y)))
 
   pub ranges-order : (rs : List (Range ℕ)) (least : ℕ) → All (λ r. (r .lo ≤ r .hi) × (r .hi ≤ 65535)) rs → Ascending range-before rs → All (λ r. least ≤ r .lo * 65536 + r .hi) rs → Chained n e (map range-cell rs) → ascend e least (cell-slots (map range-cell rs)) ≡ true
   unfolding ascend

@@ -1,0 +1,2 @@
+-- Definitions that the contracts of the row tests cite.
+pub mod Forms

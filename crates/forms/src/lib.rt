@@ -1,0 +1,138 @@
+// What the row of a slot may be in each chain.
+use rows::hi_of;
+use rows::kind_of;
+use rows::lo_of;
+use rows::stamp_of;
+use rows::tally_of;
+ghost use mathlib.Core.Path.{_≡_};
+ghost use Prim.Native.Nat.{_+_, _*_, _<_};
+ghost use lib.ListN.{length};
+ghost use Rattle.tables.specs.Sound.{is-free, is-point, is-range, order-key, is-stamped, owed-before};
+ghost use Rattle.forms.specs.Forms.{record-fits, row-fits};
+
+// What a chain is for decides which rows it may have.
+pub enum Class {
+    Free,
+    Points,
+    Ranges,
+}
+
+// One number orders points by docket and ranges by lo, then hi; it is wide, so that one more still fits.
+pub fn order_key(e: &[u32], s: usize) -> usize
+    requires { ⌜ 4 * s + 3 < length (now e) ⌝ }
+    ensures { λ r. ⌜ r ≡ order-key (now (e .entry)) s ⌝ }
+{
+    let span = e[4 * s + 1] as usize;
+    span % 65536 * 65536 + span / 65536
+}
+
+// A free slot is zero but for its next, so that nothing of a wiped record is left.
+fn is_free(e: &[u32], s: usize) -> bool
+    requires { ⌜ 4 * s + 3 < length (now e) ⌝ }
+    ensures { λ r. ⌜ r ≡ is-free (now (e .entry)) s ⌝ }
+{
+    if kind_of(e, s) != 0 {
+        return false;
+    }
+    if e[4 * s + 1] != 0 {
+        return false;
+    }
+    if tally_of(e, s) != 0 {
+        return false;
+    }
+    stamp_of(e, s) == 0
+}
+
+// A put, or a delete without a tally, of one docket.
+fn is_point(e: &[u32], s: usize) -> bool
+    requires { ⌜ 4 * s + 3 < length (now e) ⌝ }
+    ensures { λ r. ⌜ r ≡ is-point (now (e .entry)) s ⌝ }
+{
+    if lo_of(e, s) != hi_of(e, s) {
+        return false;
+    }
+    let kind = kind_of(e, s);
+    let tally = tally_of(e, s);
+    if kind == 1 {
+        return true;
+    }
+    if kind != 2 {
+        return false;
+    }
+    tally == 0
+}
+
+// A range delete without a tally.
+fn is_range(e: &[u32], s: usize) -> bool
+    requires { ⌜ 4 * s + 3 < length (now e) ⌝ }
+    ensures { λ r. ⌜ r ≡ is-range (now (e .entry)) s ⌝ }
+{
+    if hi_of(e, s) < lo_of(e, s) {
+        return false;
+    }
+    if kind_of(e, s) != 3 {
+        return false;
+    }
+    tally_of(e, s) == 0
+}
+
+fn is_stamped(e: &[u32], s: usize) -> bool
+    requires { ⌜ 4 * s + 3 < length (now e) ⌝ }
+    ensures { λ r. ⌜ r ≡ is-stamped (now (e .entry)) s ⌝ }
+{
+    let stamp = stamp_of(e, s);
+    if stamp < 1 {
+        return false;
+    }
+    stamp <= e[1]
+}
+
+// A level that holds a delete owes it from its stamp or earlier.
+fn owed_before(e: &[u32], owed: u32, s: usize) -> bool
+    requires { ⌜ 4 * s + 3 < length (now e) ⌝ }
+    ensures { λ r. ⌜ r ≡ owed-before (now (e .entry)) owed s ⌝ }
+{
+    if kind_of(e, s) == 1 {
+        return true;
+    }
+    if owed == 0 {
+        return false;
+    }
+    owed <= stamp_of(e, s)
+}
+
+// What points and ranges have in common: order, stamp and owed.
+fn record_fits(e: &[u32], owed: u32, least: usize, s: usize) -> bool
+    requires { ⌜ 4 * s + 3 < length (now e) ⌝ }
+    ensures { λ r. ⌜ r ≡ record-fits (now (e .entry)) owed least s ⌝ }
+{
+    if order_key(e, s) < least {
+        return false;
+    }
+    if !is_stamped(e, s) {
+        return false;
+    }
+    owed_before(e, owed, s)
+}
+
+// Whether slot s may stand in a chain of this class, after keys below least.
+pub fn row_fits(class: Class, e: &[u32], owed: u32, least: usize, s: usize) -> bool
+    requires { ⌜ 4 * s + 3 < length (now e) ⌝ }
+    ensures { λ r. ⌜ r ≡ row-fits class (now (e .entry)) owed least s ⌝ }
+{
+    match class {
+        Class::Free => is_free(e, s),
+        Class::Points => {
+            if !is_point(e, s) {
+                return false;
+            }
+            record_fits(e, owed, least, s)
+        },
+        Class::Ranges => {
+            if !is_range(e, s) {
+                return false;
+            }
+            record_fits(e, owed, least, s)
+        },
+    }
+}

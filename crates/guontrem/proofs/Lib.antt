@@ -1,0 +1,2 @@
+-- Laws of what goes out to C.
+pub mod Stamped

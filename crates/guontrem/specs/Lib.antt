@@ -1,0 +1,2 @@
+-- How answers go out to C.
+pub mod Packed

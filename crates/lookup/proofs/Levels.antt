@@ -1,0 +1,37 @@
+-- What each turn over the levels, and each way out, says of the whole lookup.
+use mathlib.Core.Path.{_≡_, refl}
+use mathlib.Core.Logic.{_≢_}
+use mathlib.Core.List.{List}
+use Prim.Native.Nat.{ℕ, zero, suc, _+_, _-_}
+use native.Mathlib.Omega.{arith}
+use native.Mathlib.Numerals.{add-one}
+use Rattle.model.specs.Lookup as model
+use Rattle.tables.specs.Words.{settings-of}
+use Rattle.tables.specs.Placed.{read-level, read-levels, read-state}
+use Rattle.lookup.specs.declared.Decided.{Decided}
+use Rattle.lookup.specs.Answers.{level-decides, settle}
+use Rattle.lookup.proofs.Answers.{lookup-decides}
+
+-- The lookup in the levels from one on, so many as are left.
+abbrev pub look-from : List ℕ → List ℕ → ℕ → ℕ → ℕ → model.Found ℕ
+look-from e l k left level = model.lookup (read-levels e l left level) k
+
+module _ (e l : List ℕ) (k : ℕ) where
+  pub look-all : (levels first : ℕ) → levels ≡ settings-of l .deepest + 1 → first ≡ 0
+      → look-from e l k levels first ≡ model.lookup (read-state e l .levels) k
+  unfolding read-state
+  look-all levels first q z = rw (q, z, add-one (settings-of l .deepest))
+
+  pub look-none : (left level : ℕ) → left ≡ 0 → look-from e l k left level ≡ model.absent
+  unfolding read-levels model.lookup
+  look-none left level z = rw z
+
+  -- The level says d, which is w: then w, or what the levels from the next one on give.
+  pub look-next : (left level next : ℕ) (d w : Decided) → left ≢ 0 → next ≡ suc level
+      → d ≡ level-decides (read-level e l level) k → d ≡ w
+      → look-from e l k left level ≡ settle w (look-from e l k (left - 1) next)
+  unfolding read-levels
+  look-next zero level next d w nz n says is = absurd (nz refl)
+  look-next (suc j) level next d w nz n says is =
+      let j≡ : suc j - 1 ≡ j = omega arith in
+      rw (j≡, n, ← is, says) (lookup-decides (read-level e l level) (read-levels e l j (suc level)) k)

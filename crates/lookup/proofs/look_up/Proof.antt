@@ -1,0 +1,107 @@
+-- `lookup::look_up` meets its contract. The loop's invariant: the levels that are left give what all levels give.
+use mathlib.Core.Path.{_≡_, refl, sym, _∙_}
+use Prim.Native.Nat.{_+_, _-_, _≤_}
+use native.Mathlib.Omega.{arith}
+use Rattle.model.specs.Lookup.{lookup}
+use Rattle.tables.specs.Words.{settings-of}
+use Rattle.tables.specs.Placed.{read-state}
+use Rattle.lookup.proofs.Levels.{look-from, look-all, look-none, look-next}
+use Rattle.lookup.proofs.look_up.Statement.{statement}
+use Rattle.lookup.proofs.look_up.Tie as tie
+
+abbrev Inv-loop : tie.InvT-loop
+Inv-loop e l docket levels left₀ left =
+    (left ≤ levels) × (levels ≡ settings-of l .deepest + 1)
+    × (look-from e l docket left (levels - left) ≡ lookup (read-state e l .levels) docket)
+
+abbrev μ-loop : tie.MeasureT-loop
+μ-loop e l docket levels left₀ left = left
+
+shared-slice-read-levels : tie.Need-shared-slice-read-levels Inv-loop μ-loop
+shared-slice-read-levels c = omega (arith, c .before .before .before .pre .rows)
+
+cast-levels : tie.Need-cast-levels Inv-loop μ-loop
+cast-levels c = omega (arith, c .before .before .before .pre .shallow)
+
+add-levels : tie.Need-add-levels Inv-loop μ-loop
+add-levels c = omega (arith, c .before .before .before .pre .shallow)
+
+loop-holds : tie.Need-loop-holds Inv-loop μ-loop
+loop-holds c =
+    let a = c .before .before .before .args in
+    (omega arith, refl, look-all (a .e .now) (a .l .now) (a .docket) _ _ refl (omega arith))
+
+sub-level : tie.Need-sub-level Inv-loop μ-loop
+sub-level c = omega arith
+
+look-level-requires : tie.Need-look-level-requires Inv-loop μ-loop
+look-level-requires c κs = (c .before .before .before .before .before .pre, omega arith)
+
+enum-known-tally : tie.Need-enum-known-tally Inv-loop μ-loop
+enum-known-tally c = c .match .keys1
+
+returns : tie.Need-returns Inv-loop μ-loop
+returns c =
+    let a = c .before .before .before .before .before .before .before .before .before .args in
+    sym
+    (look-next (a .e .now) (a .l .now) (a .docket) _ _ _ _ _ (c .before .before .before .before .loop-test .taken) refl
+    (c .before .before .before .look-level .ensures) (c .before .tally .given .1))
+    ∙ c .before .before .before .before .before .loop .inv .2
+
+enum-told : tie.Need-enum-told Inv-loop μ-loop
+enum-told c = c .match .keys2
+
+returns-2 : tie.Need-returns-2 Inv-loop μ-loop
+returns-2 c =
+    let a = c .before .before .before .before .before .before .before .before .args in
+    sym
+    (look-next (a .e .now) (a .l .now) (a .docket) _ _ _ _ _ (c .before .before .before .loop-test .taken) refl
+    (c .before .before .look-level .ensures) (c .enum-told .given .1))
+    ∙ c .before .before .before .before .loop .inv .2
+
+enum-told-2 : tie.Need-enum-told-2 Inv-loop μ-loop
+enum-told-2 c = c .match .keys3
+
+sub-left : tie.Need-sub-left Inv-loop μ-loop
+sub-left c = omega arith
+
+loop-less : tie.Need-loop-less Inv-loop μ-loop
+loop-less c = omega arith
+
+loop-again : tie.Need-loop-again Inv-loop μ-loop
+loop-again c =
+    let a = c .before .before .before .before .before .before .before .before .args in (
+      omega arith,
+      refl,
+      sym
+          (look-next (a .e .now) (a .l .now) (a .docket) _ _ _ _ _ (c .before .before .before .loop-test .taken) (omega arith)
+          (c .before .before .look-level .ensures) (c .enum-told2 .given .1))
+          ∙ c .before .before .before .before .loop .inv .2,
+    )
+
+returns-3 : tie.Need-returns-3 Inv-loop μ-loop
+returns-3 c =
+    let a = c .before .before .before .before .before .args in
+    sym (look-none (a .e .now) (a .l .now) (a .docket) _ _ (c .loop-test .left)) ∙ c .before .loop .inv .2
+
+pub look-up-spec : {M : Type 1} → statement M
+look-up-spec =
+    tie.close
+    (tie.spec
+    Inv-loop
+    μ-loop
+    shared-slice-read-levels
+    cast-levels
+    add-levels
+    loop-holds
+    sub-level
+    look-level-requires
+    enum-known-tally
+    returns
+    enum-told
+    returns-2
+    enum-told-2
+    sub-left
+    loop-less
+    loop-again
+    returns-3)

@@ -1,0 +1,88 @@
+// A row of a table read and written: what each word of a slot holds.
+ghost use mathlib.Core.Path.{_≡_};
+ghost use Prim.Native.Nat.{_+_, _*_, _<_};
+ghost use lib.ListN.{length};
+ghost use Rattle.tables.specs.Words.{set-row, next-of, kind-of, lo-of, hi-of, tally-of, stamp-of, slots-of};
+ghost use Rattle.tables.specs.Sound.{entries-fit};
+
+// Slots are chained, and kinds stacked on them, at this base; so are lo and hi.
+const BASE: u32 = 65536;
+
+// N, the slots beside slot 0.
+pub fn slot_count(entries: &[u32]) -> usize
+    ensures { λ r. ⌜ r ≡ slots-of (now (entries .entry)) ⌝ }
+{
+    let rows = entries.len() / 4;
+    // A table without even slot 0 has no slots.
+    if rows == 0 {
+        return 0;
+    }
+    rows - 1
+}
+
+// Whether the table has four words for slot 0 and for each of 1 to 65,535 slots.
+pub fn entries_fit(entries: &[u32]) -> bool
+    ensures { λ r. ⌜ r ≡ entries-fit (now (entries .entry)) ⌝ }
+{
+    let n = slot_count(entries);
+    if entries.len() != 4 * (n + 1) {
+        return false;
+    }
+    if n < 1 {
+        return false;
+    }
+    n <= 65535
+}
+
+pub fn next_of(e: &[u32], slot: usize) -> usize
+    requires { ⌜ 4 * slot + 3 < length (now e) ⌝ }
+    ensures { λ r. ⌜ r ≡ next-of (now (e .entry)) slot ⌝ }
+{
+    (e[4 * slot] % BASE) as usize
+}
+
+pub fn kind_of(e: &[u32], slot: usize) -> u32
+    requires { ⌜ 4 * slot + 3 < length (now e) ⌝ }
+    ensures { λ r. ⌜ r ≡ kind-of (now (e .entry)) slot ⌝ }
+{
+    e[4 * slot] / BASE
+}
+
+pub fn lo_of(e: &[u32], slot: usize) -> u32
+    requires { ⌜ 4 * slot + 3 < length (now e) ⌝ }
+    ensures { λ r. ⌜ r ≡ lo-of (now (e .entry)) slot ⌝ }
+{
+    e[4 * slot + 1] % BASE
+}
+
+pub fn hi_of(e: &[u32], slot: usize) -> u32
+    requires { ⌜ 4 * slot + 3 < length (now e) ⌝ }
+    ensures { λ r. ⌜ r ≡ hi-of (now (e .entry)) slot ⌝ }
+{
+    e[4 * slot + 1] / BASE
+}
+
+pub fn tally_of(e: &[u32], slot: usize) -> u32
+    requires { ⌜ 4 * slot + 3 < length (now e) ⌝ }
+    ensures { λ r. ⌜ r ≡ tally-of (now (e .entry)) slot ⌝ }
+{
+    e[4 * slot + 2]
+}
+
+pub fn stamp_of(e: &[u32], slot: usize) -> u32
+    requires { ⌜ 4 * slot + 3 < length (now e) ⌝ }
+    ensures { λ r. ⌜ r ≡ stamp-of (now (e .entry)) slot ⌝ }
+{
+    e[4 * slot + 3]
+}
+
+// Writes the four words of one row.
+pub fn set_row(table: &mut [u32], row: usize, w0: u32, w1: u32, w2: u32, w3: u32)
+    requires { ⌜ 4 * row + 3 < length (now table) ⌝ }
+    ensures { λ _. ⌜ now (table .exit) ≡ set-row (now (table .entry)) row (record { w0 = w0; w1 = w1; w2 = w2; w3 = w3 }) ⌝ }
+{
+    table[4 * row] = w0;
+    table[4 * row + 1] = w1;
+    table[4 * row + 2] = w2;
+    table[4 * row + 3] = w3;
+}

@@ -1,0 +1,128 @@
+-- Laws of one level and of the loop over the levels, as the code asks them.
+use mathlib.Core.Path.{_≡_, refl, sym, ap, _∙_}
+use mathlib.Core.Bool.{Bool, true, false, _&&_, false≢true}
+use mathlib.Core.List.{List, [], _∷_, _++_}
+use Prim.Native.Nat.{ℕ, zero, suc, _+_, _-_, _<_, _≤_}
+use native.Mathlib.Omega.{arith}
+use native.Mathlib.Numerals.{sub-one, add-one}
+use borrow.Author.Tests.{eq-eqb}
+use lib.Dec.{eqb}
+use lib.ListN.{length, length-append}
+use Rattle.marks.specs.Marks.{with-mark}
+use Rattle.tables.specs.Words.{row-of, slots-of, settings-of, level-row}
+use Rattle.tables.specs.Sound.{free-chain, point-chain, range-chain}
+use Rattle.forms.specs.declared.Class.the-variants.{Free, Points, Ranges}
+use Rattle.soundness.specs.Walks.{walk-fits, mark-each, unmarked, Went}
+use Rattle.soundness.specs.Levels.{level-slots, numbers-fit, level-fits, Leveled, levels-fit-from, Levels, chains-fit}
+
+pub mark-each-append : (m xs ys : List ℕ) → mark-each m (xs ++ ys) ≡ mark-each (mark-each m xs) ys
+unfolding mark-each
+mark-each-append m [] ys = refl
+mark-each-append m (s ∷ xs) ys = mark-each-append (with-mark m s) xs ys
+
+failed : {e l : List ℕ} {i : ℕ} {m m′ : List ℕ} → false ≡ level-fits e l i m → Leveled e l i m m′ false 0
+failed q = record { right = q; number = λ x. absurd (false≢true x); marks = λ x. absurd (false≢true x); sum = λ x. absurd (false≢true x) }
+
+module _ {e : List ℕ} (l : List ℕ) (i : ℕ) {m : List ℕ} where
+  module _ {m1 : List ℕ} {fits1 : Bool} {k1 : ℕ} (w1 : Went Points e (level-row l i .w3) (point-chain e l i) m m1 fits1 k1) where
+    wrong-points : fits1 ≡ false → false ≡ level-fits e l i m
+    unfolding level-fits
+    wrong-points q = rw (sym (w1 .right) ∙ q)
+
+    pub points-fail : {m′ : List ℕ} → fits1 ≡ false → Leveled e l i m m′ false 0
+    points-fail q = failed (wrong-points q)
+
+    module _ {m2 : List ℕ} {fits2 : Bool} {k2 : ℕ} (w2 : Went Ranges e (level-row l i .w3) (range-chain e l i) m1 m2 fits2 k2) (t : fits1 ≡ true) where
+      one : walk-fits Points e (level-row l i .w3) 0 m (point-chain e l i) ≡ true
+      one = sym (w1 .right) ∙ t
+
+      two : walk-fits Ranges e (level-row l i .w3) 0 (mark-each m (point-chain e l i)) (range-chain e l i) ≡ fits2
+      two = ap (λ (z : List ℕ). walk-fits Ranges e (level-row l i .w3) 0 z (range-chain e l i)) (sym (w1 .marks t)) ∙ sym (w2 .right)
+
+      wrong-ranges : fits2 ≡ false → false ≡ level-fits e l i m
+      unfolding level-fits
+      wrong-ranges q = rw (one, two ∙ q)
+
+      pub ranges-fail : {m′ : List ℕ} → fits2 ≡ false → Leveled e l i m m′ false 0
+      ranges-fail q = failed (wrong-ranges q)
+
+      number : fits2 ≡ true → k1 + k2 ≡ length (level-slots e l i)
+      number q = omega (arith, length-append (point-chain e l i) (range-chain e l i), w1 .number t, w2 .number q)
+
+      pub level-sum : fits2 ≡ true → k1 + k2 + unmarked (slots-of e) m2 ≡ unmarked (slots-of e) m
+      level-sum q = omega (arith, w1 .sum t, w2 .sum q)
+
+      pub level-ends : {fits3 : Bool} → fits2 ≡ true → fits3 ≡ numbers-fit e l i (k1 + k2) → Leveled e l i m m2 fits3 (k1 + k2)
+      unfolding level-fits
+      level-ends q r = record {
+        right = rw (one, two ∙ q, ← (number q)) r;
+        number = λ x. number q;
+        marks = λ x. w2 .marks q ∙ ap (λ (z : List ℕ). mark-each z (range-chain e l i)) (w1 .marks t) ∙ sym (mark-each-append m (point-chain e l i) (range-chain e l i));
+        sum = λ x. level-sum q;
+      }
+
+-- The levels after level i.
+abbrev after : List ℕ → List ℕ → List ℕ → ℕ → ℕ → Bool
+after e l m total i =
+    levels-fit-from e l (settings-of l .deepest + 1 - i - 1) (i + 1) (mark-each m (level-slots e l i)) (total + length (level-slots e l i))
+
+unroll : (e l : List ℕ) (j i : ℕ) (m : List ℕ) (total : ℕ) → 0 < j
+    → levels-fit-from e l j i m total
+    ≡ level-fits e l i m && levels-fit-from e l (j - 1) (i + 1) (mark-each m (level-slots e l i)) (total + length (level-slots e l i))
+unfolding levels-fit-from
+unroll e l zero i m total h = absurd (omega arith)
+unroll e l (suc j) i m total h = rw (sub-one, add-one i)
+
+module _ {e l m₀ : List ℕ} {free : ℕ} where
+  pub levels-start : Levels e l m₀ free m₀ free 0
+  levels-start = record { upto = omega arith; len = refl; sum = refl; fits = ap (λ (j : ℕ). levels-fit-from e l j 0 m₀ free) (omega arith) }
+
+  module _ {m : List ℕ} {total i : ℕ} (g : Levels e l m₀ free m total i) where
+    pub levels-end : settings-of l .deepest < i → eqb total (slots-of e) ≡ levels-fit-from e l (settings-of l .deepest + 1) 0 m₀ free
+    unfolding levels-fit-from
+    levels-end h = rw (none) at (g .fits)
+      where
+        none : settings-of l .deepest + 1 - i ≡ 0
+        none = omega (arith, h)
+
+    module _ {m′ : List ℕ} {fits : Bool} {k : ℕ} (more : i ≤ settings-of l .deepest) (w : Leveled e l i m m′ fits k) where
+      here : levels-fit-from e l (settings-of l .deepest + 1) 0 m₀ free ≡ fits && after e l m total i
+      here = sym (g .fits) ∙ unroll e l (settings-of l .deepest + 1 - i) i m total (omega arith) ∙ ap (λ (b : Bool). b && after e l m total i) (sym (w .right))
+
+      pub levels-fail : fits ≡ false → false ≡ levels-fit-from e l (settings-of l .deepest + 1) 0 m₀ free
+      levels-fail q = sym (rw q at here)
+
+      pub levels-go : fits ≡ true → length m′ ≡ length m → Levels e l m₀ free m′ (total + k) (i + 1)
+      levels-go q len =
+          let less : settings-of l .deepest + 1 - (i + 1) ≡ settings-of l .deepest + 1 - i - 1 = omega arith in
+          record {
+            upto = omega arith;
+            len = len ∙ g .len;
+            sum = omega (arith, g .sum, w .sum q);
+            fits = rw (less, w .marks q, w .number q) (sym (rw q at here));
+          }
+
+-- The chains once the words beside them are right, after a walk along the free chain.
+module _ (e l : List ℕ) {m : List ℕ} (a : row-of e 0 .w2 ≡ 0) (b : row-of e 0 .w3 ≡ 0) (d : level-row l (settings-of l .deepest) .w3 ≡ 0) where
+  module _ {m1 : List ℕ} {fits : Bool} {k : ℕ} (w : Went Free e 0 (free-chain e) m m1 fits k) where
+    pub chains-fail : fits ≡ false → false ≡ chains-fit e l m
+    unfolding chains-fit
+    chains-fail q =
+        rw (
+          eq-eqb (row-of e 0 .w2) 0 a,
+          eq-eqb (row-of e 0 .w3) 0 b,
+          eq-eqb (level-row l (settings-of l .deepest) .w3) 0 d,
+          sym (w .right) ∙ q,
+        )
+
+    pub chains-go : fits ≡ true → levels-fit-from e l (settings-of l .deepest + 1) 0 m1 k ≡ chains-fit e l m
+    unfolding chains-fit
+    chains-go q =
+        rw (
+          eq-eqb (row-of e 0 .w2) 0 a,
+          eq-eqb (row-of e 0 .w3) 0 b,
+          eq-eqb (level-row l (settings-of l .deepest) .w3) 0 d,
+          sym (w .right) ∙ q,
+          w .marks q,
+          w .number q,
+        )
