@@ -64,7 +64,7 @@ module _ {S A : Type 0} where
   pub overwrite-key : (k : ℕ) (a : A) (t : ℕ) (p : Point S A) → overwrite k a t p .key ≡ p .key
   overwrite-key k a t p = cond-elim (λ (q : Point S A). q .key ≡ p .key) (eqb (p .key) k) _ p (λ e. refl) (λ e. refl)
 
-  overwrite-ordered : (k : ℕ) (a : A) (t : ℕ) (ps : List (Point S A)) → Ascending point-before ps → Ascending point-before (map (overwrite k a t) ps)
+  pub overwrite-ordered : (k : ℕ) (a : A) (t : ℕ) (ps : List (Point S A)) → Ascending point-before ps → Ascending point-before (map (overwrite k a t) ps)
   overwrite-ordered k a t ps h = map-ascending (overwrite k a t) point-before point-before (λ p q. rw (overwrite-key k a t p, overwrite-key k a t q)) ps h
 
 -- A store in form.

@@ -40,6 +40,10 @@ module _ {S A : Type 0} (s : State S A) (c : Call A) where
       (λ d. cond-elim StepView (bad-clock (c .clock) (s .clock)) _ _ (refused-5 d)
       (λ e. cond-elim StepView (out-of-slots (c .clock) (c .op) s) _ _ (refused-7 d e) (λ f. rw finish-accepts (passed d e f))))
 
+  pub accepted-clock : accepted-outcome .state .clock ≡ c .clock
+  unfolding accepted-outcome
+  accepted-clock = refl
+
   -- An accepted call ends in its pass.
   pub record Accepted : Type 0 where
     pub docket : bad-docket (c .op) ≡ false

@@ -13,7 +13,14 @@ use Rattle.tables.specs.Words.{row-of, slots-of, settings-of, level-row}
 use Rattle.tables.specs.Sound.{free-chain, point-chain, range-chain}
 use Rattle.forms.specs.declared.Class.the-variants.{Free, Points, Ranges}
 use Rattle.soundness.specs.Walks.{walk-fits, mark-each, unmarked, Went}
-use Rattle.soundness.specs.Levels.{level-slots, numbers-fit, level-fits, Leveled, levels-fit-from, Levels, chains-fit}
+use Rattle.soundness.specs.Levels.{level-slots, numbers-fit, level-fits, Leveled, levels-fit-from, chains-fit}
+
+-- The loop over the levels, at level i.
+pub record Levels (e l m₀ : List ℕ) (free : ℕ) (m : List ℕ) (total i : ℕ) : Type 0 where
+  pub upto : i ≤ settings-of l .deepest + 1
+  pub len : length m ≡ length m₀
+  pub sum : total + unmarked (slots-of e) m ≡ free + unmarked (slots-of e) m₀
+  pub fits : levels-fit-from e l (settings-of l .deepest + 1 - i) i m total ≡ levels-fit-from e l (settings-of l .deepest + 1) 0 m₀ free
 
 pub mark-each-append : (m xs ys : List ℕ) → mark-each m (xs ++ ys) ≡ mark-each (mark-each m xs) ys
 unfolding mark-each

@@ -16,9 +16,19 @@ use Rattle.tables.specs.Sound.{chain, chain-from, order-key}
 use Rattle.forms.specs.declared.Class.{Class}
 use Rattle.forms.specs.Forms.{row-fits}
 use Rattle.soundness.specs.Slots.{Entries, slot-fits}
-use Rattle.soundness.specs.Walks.{walk-fits, mark-each, unmarked, Going, Went}
+use Rattle.soundness.specs.Walks.{walk-fits, mark-each, unmarked, Went}
 use Rattle.soundness.proofs.Chains.{chain-end, chain-on}
 use Rattle.soundness.proofs.Unmarked.{unmarked-le, unmarked-mark}
+
+-- A walk that has reached slot at, and what its end will say of the whole.
+pub record Going (class : Class) (e : List ℕ) (owed : ℕ) (m₀ ss : List ℕ) (m : List ℕ) (at least count : ℕ) : Type 0 where
+  pub fuel : ℕ
+  pub room : unmarked (slots-of e) m < fuel
+  pub len : length m ≡ length m₀
+  pub sum : count + unmarked (slots-of e) m ≡ unmarked (slots-of e) m₀
+  pub fits : walk-fits class e owed least m (chain fuel e at) ≡ walk-fits class e owed 0 m₀ ss
+  pub number : count + length (chain fuel e at) ≡ length ss
+  pub marks : mark-each m (chain fuel e at) ≡ mark-each m₀ ss
 
 -- What an accepted slot says.
 pub record Slot (class : Class) (e : List ℕ) (owed least s : ℕ) (m : List ℕ) : Type 0 where

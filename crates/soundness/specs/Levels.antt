@@ -2,7 +2,7 @@
 use mathlib.Core.Path.{_≡_}
 use mathlib.Core.Bool.{Bool, true, _&&_, _||_, not}
 use mathlib.Core.List.{List, _++_}
-use Prim.Native.Nat.{ℕ, zero, suc, _+_, _-_, _≤_}
+use Prim.Native.Nat.{ℕ, zero, suc, _+_}
 use lib.Dec.{leb, eqb}
 use lib.ListN.{length}
 use Rattle.tables.specs.Words.{row-of, clock-of, slots-of, settings-of, level-row}
@@ -35,13 +35,6 @@ unfoldable pub levels-fit-from : List ℕ → List ℕ → ℕ → ℕ → List 
 levels-fit-from e l zero i m total = eqb total (slots-of e)
 levels-fit-from e l (suc j) i m total =
     level-fits e l i m && levels-fit-from e l j (suc i) (mark-each m (level-slots e l i)) (total + length (level-slots e l i))
-
--- The loop over the levels, at level i.
-pub record Levels (e l m₀ : List ℕ) (free : ℕ) (m : List ℕ) (total i : ℕ) : Type 0 where
-  pub upto : i ≤ settings-of l .deepest + 1
-  pub len : length m ≡ length m₀
-  pub sum : total + unmarked (slots-of e) m ≡ free + unmarked (slots-of e) m₀
-  pub fits : levels-fit-from e l (settings-of l .deepest + 1 - i) i m total ≡ levels-fit-from e l (settings-of l .deepest + 1) 0 m₀ free
 
 unfoldable pub chains-fit : List ℕ → List ℕ → List ℕ → Bool
 chains-fit e l m =

@@ -2,12 +2,12 @@
 use mathlib.Core.Path.{_≡_}
 use mathlib.Core.Bool.{Bool, true, cond, _&&_}
 use mathlib.Core.List.{List, [], _∷_}
-use Prim.Native.Nat.{ℕ, zero, suc, _+_, _<_}
+use Prim.Native.Nat.{ℕ, zero, suc, _+_}
 use lib.Dec.{leb, eqb}
 use lib.ListN.{length}
 use Rattle.marks.specs.Marks.{mark-of, with-mark}
 use Rattle.tables.specs.Words.{slots-of}
-use Rattle.tables.specs.Sound.{chain, order-key}
+use Rattle.tables.specs.Sound.{order-key}
 use Rattle.forms.specs.declared.Class.{Class}
 use Rattle.forms.specs.Forms.{row-fits}
 use Rattle.soundness.specs.Slots.{slot-fits}
@@ -35,16 +35,6 @@ walk-fits class e owed least m (s ∷ ss) = slot-fits class e owed least s m && 
 unfoldable pub unmarked : ℕ → List ℕ → ℕ
 unmarked zero m = 0
 unmarked (suc n) m = cond (eqb (mark-of m (suc n)) 0) 1 0 + unmarked n m
-
--- A walk that has reached slot at, and what its end will say of the whole.
-pub record Going (class : Class) (e : List ℕ) (owed : ℕ) (m₀ ss : List ℕ) (m : List ℕ) (at least count : ℕ) : Type 0 where
-  pub fuel : ℕ
-  pub room : unmarked (slots-of e) m < fuel
-  pub len : length m ≡ length m₀
-  pub sum : count + unmarked (slots-of e) m ≡ unmarked (slots-of e) m₀
-  pub fits : walk-fits class e owed least m (chain fuel e at) ≡ walk-fits class e owed 0 m₀ ss
-  pub number : count + length (chain fuel e at) ≡ length ss
-  pub marks : mark-each m (chain fuel e at) ≡ mark-each m₀ ss
 
 -- What a walk along the slots ss answers, over marks m that it leaves as m′.
 pub record Went (class : Class) (e : List ℕ) (owed : ℕ) (ss : List ℕ) (m m′ : List ℕ) (fits : Bool) (count : ℕ) : Type 0 where

@@ -14,3 +14,5 @@ pub mod WordsSound
 pub mod FormedSound
 pub mod SoundChains
 pub mod Deepest
+pub mod FormedLevels
+pub mod FormedSteps

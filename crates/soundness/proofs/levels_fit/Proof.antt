@@ -1,6 +1,5 @@
 -- `soundness::levels_fit`: the invariant says what the levels left have to say of all of them.
-use Rattle.soundness.proofs.Levels.{levels-start, levels-end, levels-fail, levels-go}
-use Rattle.soundness.specs.Levels.{Levels}
+use Rattle.soundness.proofs.Levels.{Levels, levels-start, levels-end, levels-fail, levels-go}
 use Prim.Native.Nat.{_+_, _-_}
 use borrow.Author.Tests.{not-true, not-false}
 use borrow.Author.Needs.{needs}

@@ -1,7 +1,7 @@
 -- `soundness::walk`: the invariant says what the rest of the chain has to say of the whole; the unmarked slots grow fewer.
-use Rattle.soundness.proofs.Walks.{slot-facts, walk-starts, walk-fails, walk-less, walk-goes, walk-ends}
+use Rattle.soundness.proofs.Walks.{Going, slot-facts, walk-starts, walk-fails, walk-less, walk-goes, walk-ends}
 use Rattle.soundness.proofs.Unmarked.{unmarked-le}
-use Rattle.soundness.specs.Walks.{unmarked, Going}
+use Rattle.soundness.specs.Walks.{unmarked}
 use Rattle.tables.specs.Sound.{chain-from}
 use Rattle.tables.specs.Words.{slots-of}
 use Prim.Native.Nat.{_+_, _*_}
