@@ -6,7 +6,11 @@ use Prim.Native.Nat.{ℕ, _<_, _≤_}
 use borrow.Author.Tests.{eq-eqb, ne-eqb, lt-ltb, le-ltb}
 use Rattle.model.specs.Lookup as model
 use Rattle.tables.specs.Sound.{table-refusal}
-use Rattle.tables.specs.Placed.{read-state}
+use Rattle.model.specs.Records.{State}
+use Rattle.tables.specs.Placed.{entry-words, level-words, read-state}
+use Rattle.tables.specs.Formed.{Formed}
+use Rattle.tables.proofs.Back.{written-reads}
+use Rattle.tables.proofs.FormedSound.{words-sound}
 use Rattle.lookup.specs.declared.Answer.{Answer}
 use Rattle.lookup.specs.declared.Answer.the-variants.{Refused}
 use Rattle.lookup.specs.declared.Found as answer
@@ -26,3 +30,9 @@ module _ (e l : List ℕ) (k r : ℕ) (checked : r ≡ table-refusal e l) where
       → (a : Answer) → answered (found-of f) ≡ a → a ≡ lookup-tables e l k
   unfolding lookup-tables
   looked-up z h f says a is = rw (← checked, eq-eqb r 0 z, le-ltb 65535 k h) (sym is ∙ ap answered says)
+
+-- On the words of a formed state, a docket is looked up in that state.
+pub looked-up-words : (n : ℕ) (p : State ℕ ℕ) (k : ℕ) → Formed n p → k ≤ 65535
+    → lookup-tables (entry-words n p) (level-words p) k ≡ answered (model.lookup (p .levels) k)
+unfolding lookup-tables
+looked-up-words n p k f h = rw (words-sound n p f, le-ltb 65535 k h, written-reads n p f)

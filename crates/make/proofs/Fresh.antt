@@ -30,6 +30,9 @@ unfolding count-up
 length-count-up zero s = refl
 length-count-up (suc k) s = ap suc (length-count-up k (suc s))
 
+pub length-upto : (n : ℕ) → length (upto n) ≡ n
+length-upto n = length-count-up n 1
+
 times-below : (x k s : ℕ) → x < s → times x (count-up s k) ≡ 0
 unfolding count count-up
 times-below x zero s h = refl

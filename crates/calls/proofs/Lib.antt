@@ -1,0 +1,3 @@
+-- What is proved of the timed calls on the words; the last file has the demands.
+pub mod Runs
+pub mod Demands
