@@ -1,4 +1,4 @@
--- THE DEMANDS of document 01 on every word of both tables, for every list of timed calls from what an accepted making left.
+-- The demands of document 01 on every word of both tables, as far as they are stated there, for every list of timed calls from what an accepted making left.
 use mathlib.Core.Path.{_≡_, sym, ap, _∙_}
 use mathlib.Core.List.{List}
 use Prim.Native.Nat.{ℕ, _≤_}
