@@ -1,25 +1,41 @@
--- The demands of document 01 on every word of both tables, as far as they are stated there, for every list of timed calls from what an accepted making left.
-use mathlib.Core.Path.{_≡_, sym, ap, _∙_}
-use mathlib.Core.List.{List}
+-- The three demands of document 01 on every word of both tables, for every list of timed calls from what an accepted making left.
+-- What holds of a single call on tables of any content stands in Refusals.
+use mathlib.Core.Path.{_≡_, refl, sym, ap, subst, _∙_}
+use mathlib.Core.Bool.{Bool, true, false, cond}
+use mathlib.Core.List.{List, map}
+use mathlib.Core.Logic.{_↔_}
+use native.Mathlib.Omega.{arith}
+use borrow.Author.Tests.{le-ltb}
 use Prim.Native.Nat.{ℕ, _≤_}
 use Rattle.settings.specs.declared.Settings.{Settings}
 use Rattle.settings.specs.Limits.{allowed}
-use mathlib.Core.Bool.{true}
-use Rattle.model.specs.Records.{fresh}
-use Rattle.model.specs.Calls.{Call, run}
-use Rattle.model.specs.PlainMap.{get, map-run, no-rows}
+use Rattle.model.specs.Records.{State, fresh}
+use Rattle.model.specs.Steps.{put, merge-all}
+use Rattle.model.specs.Calls.{Call, Answer, written, bad-clock, out-of-slots, run, answers}
+use Rattle.model.specs.Live as live
+use Rattle.model.specs.PlainMap.{get, map-run, map-refusals, no-rows}
 use Rattle.model.specs.Erasure.{retally, Erased}
 use Rattle.model.proofs.Demands as model
+use Rattle.tables.specs.Words.{clock-of, slots-of}
 use Rattle.tables.specs.Sound.{table-refusal}
+use Rattle.tables.specs.Placed.{read-state}
+use Rattle.tables.proofs.Back.{written-reads}
 use Rattle.tables.proofs.FormedSound.{words-sound}
-use Rattle.tables.proofs.FormedSteps.{run-formed}
+use Rattle.tables.proofs.FormedSteps.{merge-all-formed, run-formed}
 use Rattle.tables.specs.Formed.{Formed}
 use Rattle.make.specs.Make.{made-entries, made-levels, upto}
 use Rattle.make.proofs.Fresh.{length-upto, fresh-formed, made-entry-words, made-level-words}
 use Rattle.lookup.specs.Lookup.{answered, lookup-tables}
 use Rattle.lookup.proofs.Refused.{looked-up-words}
-use Rattle.calls.specs.Calls.{Tables, words, run-tables}
-use Rattle.calls.proofs.Runs.{run-words}
+use Rattle.calls.specs.Calls.{Tables, words, call-tables, run-tables, answers-tables, merged-tables}
+use Rattle.calls.specs.Full.{SlotsLive}
+use Rattle.calls.proofs.Runs.{words-slots, run-words, answers-words}
+use Rattle.calls.proofs.Refusals.{refused-exactly}
+use Rattle.calls.proofs.Live.{live-words}
+
+seven : (b : Bool) → _≡_ {A = ℕ} (cond b 7 0) 7 → b ≡ true
+seven true q = refl
+seven false q = absurd (omega arith)
 
 -- The tables of a store just made, with n slots.
 abbrev pub made-tables : ℕ → Settings → Tables
@@ -40,6 +56,32 @@ module _ (n : ℕ) (s : Settings) (low : 1 ≤ n) (high : n ≤ 65535) (ok : all
   pub always-sound : (cs : List (Call ℕ)) → table-refusal (run-tables (made-tables n s) cs .entries) (run-tables (made-tables n s) cs .levels) ≡ 0
   always-sound cs = rw (runs cs) (words-sound n (run (fresh s (upto n)) cs) (formed cs))
 
+  -- The state after the list is what its words read as.
+  abbrev after : List (Call ℕ) → State ℕ ℕ
+  after cs = run (fresh s (upto n)) cs
+
+  slots-are : (cs : List (Call ℕ)) → slots-of (run-tables (made-tables n s) cs .entries) ≡ n
+  slots-are cs = rw (runs cs) (words-slots n (after cs) (formed cs))
+
+  reads : (cs : List (Call ℕ)) → read-state (run-tables (made-tables n s) cs .entries) (run-tables (made-tables n s) cs .levels) ≡ after cs
+  reads cs = rw (runs cs) (written-reads n (after cs) (formed cs))
+
+  -- DEMAND 1: '"full" comes only when every slot holds a different live docket and the put's is not among them', and then always.
+  pub full-exactly : (cs : List (Call ℕ)) (t k a : ℕ) → k ≤ 65535 → bad-clock t (clock-of (run-tables (made-tables n s) cs .entries)) ≡ false
+      → (call-tables (run-tables (made-tables n s) cs) (record { clock = t; op = written (put k a) }) .answer .refusal ≡ 7)
+      ↔ SlotsLive n k (merged-tables (run-tables (made-tables n s) cs))
+  full-exactly cs t k a h b =
+      let w : Tables = run-tables (made-tables n s) cs in
+      let c : Call ℕ = record { clock = t; op = written (put k a) } in
+      let m : State ℕ ℕ = merge-all (after cs) .state in
+      let merged : merged-tables w ≡ words n m = rw (slots-are cs, reads cs) in
+      let number : call-tables w c .answer .refusal ≡ cond (out-of-slots t (written (put k a)) (after cs)) 7 0 =
+      refused-exactly w c ∙ rw (always-sound cs, le-ltb 65535 k h, b, reads cs) in
+      let full = model.full-exactly s ok (upto n) cs t k a in
+      let same = live-words n m (merge-all-formed n (after cs) (formed cs)) k in
+      (λ q. rw merged (same .0 (rw (length-upto n) at (full .0 (seven (out-of-slots t (written (put k a)) (after cs)) (sym number ∙ q))))),
+      λ q. number ∙ ap (λ x. cond x 7 0) (full .1 (subst (λ x. live.SlotsLive x k m) (sym (length-upto n)) (same .1 (rw merged at q)))))
+
   -- DEMAND 2: lookups answer as the plain map after the same list.
   pub lookups-as-map : (cs : List (Call ℕ)) (k : ℕ) → k ≤ 65535
       → lookup-tables (run-tables (made-tables n s) cs .entries) (run-tables (made-tables n s) cs .levels) k ≡ answered (get (map-run n no-rows cs .rows) k)
@@ -47,6 +89,15 @@ module _ (n : ℕ) (s : Settings) (low : 1 ≤ n) (high : n ≤ 65535) (ok : all
       rw (runs cs)
       (looked-up-words n (run (fresh s (upto n)) cs) k (formed cs) h
       ∙ ap answered (model.lookups-as-map s ok (upto n) cs k ∙ ap (λ m. get (map-run m no-rows cs .rows) k) (length-upto n)))
+
+  -- DEMAND 2: merges and purged numbers are those of the steps, and calls are refused as by a map of as many places.
+  pub answers-as-steps : (cs : List (Call ℕ)) → answers-tables (made-tables n s) cs ≡ answers (fresh s (upto n)) cs
+  answers-as-steps cs = rw made-words (answers-words n (fresh s (upto n)) cs (fresh-formed n s low high ok))
+
+  pub refusals-as-map : (cs : List (Call ℕ)) → map (λ (r : Answer). r .refusal) (answers-tables (made-tables n s) cs) ≡ map-refusals n no-rows cs
+  refusals-as-map cs =
+      ap (map (λ (r : Answer). r .refusal)) (answers-as-steps cs)
+      ∙ model.refusals-as-map s ok (upto n) cs ∙ ap (λ x. map-refusals x no-rows cs) (length-upto n)
 
   -- DEMAND 3: "had that put carried any other tally, every word of both tables would be the same".
   pub erased-leaves-nothing : (cs : List (Call ℕ)) (i j k a v : ℕ) → Erased (fresh s (upto n)) cs i j k a

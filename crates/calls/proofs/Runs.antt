@@ -8,7 +8,7 @@ use native.Mathlib.Omega.{arith}
 use lib.Dec.{eqb}
 use borrow.Author.Tests.{eqb-true, ne-eqb}
 use Rattle.model.specs.Records.{State}
-use Rattle.model.specs.Calls.{Call, refusing, step, run}
+use Rattle.model.specs.Calls.{Call, refusing, step, run, answers}
 use Rattle.model.specs.Erasure.{accepted}
 use Rattle.model.proofs.Demands.{refused-unchanged}
 use Rattle.tables.specs.Words.{slots-of}
@@ -19,10 +19,10 @@ use Rattle.tables.proofs.LevelSound.{Fits32}
 use Rattle.tables.proofs.Back.{formed-holds, written-reads}
 use Rattle.tables.proofs.FormedSound.{words-sound, sound-words}
 use Rattle.tables.proofs.FormedSteps.{step-formed}
-use Rattle.calls.specs.Calls.{Tables, Called, words, wrote, call-tables, run-tables}
+use Rattle.calls.specs.Calls.{Tables, Called, words, wrote, call-tables, run-tables, answers-tables}
 
 module _ (n : ℕ) where
-  words-slots : (p : State ℕ ℕ) → Formed n p → slots-of (entry-words n p) ≡ n
+  pub words-slots : (p : State ℕ ℕ) → Formed n p → slots-of (entry-words n p) ≡ n
   words-slots p f = omega (arith, formed-holds n p f .room)
 
   pub called-words : (p : State ℕ ℕ) (c : Call ℕ) → Formed n p → call-tables (words n p) c ≡ wrote n (step p c)
@@ -34,6 +34,11 @@ module _ (n : ℕ) where
   unfolding run-tables run
   run-words p [] f = refl
   run-words p (c ∷ cs) f = rw (called-words p c f) (run-words (step p c .state) cs (step-formed n p c f))
+
+  pub answers-words : (p : State ℕ ℕ) (cs : List (Call ℕ)) → Formed n p → answers-tables (words n p) cs ≡ answers p cs
+  unfolding answers-tables answers
+  answers-words p [] f = refl
+  answers-words p (c ∷ cs) f = rw (called-words p c f, answers-words (step p c .state) cs (step-formed n p c f))
 
 -- "Tables … are unchanged, save under 7", for tables of any content.
 module _ (w : Tables) (fits : Fits32 (w .entries)) (c : Call ℕ) where

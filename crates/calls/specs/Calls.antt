@@ -4,8 +4,9 @@ use mathlib.Core.List.{List, [], _∷_}
 use Prim.Native.Nat.{ℕ}
 use lib.Dec.{eqb}
 use Rattle.model.specs.Records.{State}
-use Rattle.model.specs.Calls.{Answer, Call, Outcome, refusing, step}
-use Rattle.tables.specs.Words.{slots-of}
+use Rattle.model.specs.Steps.{merge-all}
+use Rattle.model.specs.Calls.{Answer, Call, Outcome, bad-docket, bad-clock, out-of-slots, refusing, step}
+use Rattle.tables.specs.Words.{clock-of, slots-of}
 use Rattle.tables.specs.Sound.{table-refusal}
 use Rattle.tables.specs.Placed.{read-state, entry-words, level-words}
 
@@ -37,3 +38,22 @@ call-tables w c =
 unfoldable pub run-tables : Tables → List (Call ℕ) → Tables
 run-tables w [] = w
 run-tables w (c ∷ cs) = run-tables (call-tables w c .tables) cs
+
+-- What the calls of the list answer.
+unfoldable pub answers-tables : Tables → List (Call ℕ) → List Answer
+answers-tables w [] = []
+answers-tables w (c ∷ cs) = call-tables w c .answer ∷ answers-tables (call-tables w c .tables) cs
+
+-- The refusal's number, "by where they are found": the tables, the docket, the clock, the free chain.
+abbrev pub refusal-number : Tables → Call ℕ → ℕ
+refusal-number w c =
+    let p = read-state (w .entries) (w .levels) in
+    cond (eqb (table-refusal (w .entries) (w .levels)) 0)
+    (cond (bad-docket (c .op)) 4
+    (cond (bad-clock (c .clock) (clock-of (w .entries))) 5
+    (cond (out-of-slots (c .clock) (c .op) p) 7 0)))
+    (table-refusal (w .entries) (w .levels))
+
+-- Levels 0 to L−1 merged in order, and nothing else: "tables stay merged, clock as before".
+abbrev pub merged-tables : Tables → Tables
+merged-tables w = words (slots-of (w .entries)) (merge-all (read-state (w .entries) (w .levels)) .state)

@@ -1,2 +1,3 @@
 -- The timed calls on the two tables.
 pub mod Calls
+pub mod Full

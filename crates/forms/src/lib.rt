@@ -2,12 +2,13 @@
 use rows::hi_of;
 use rows::kind_of;
 use rows::lo_of;
+use rows::order_key;
 use rows::stamp_of;
 use rows::tally_of;
 ghost use mathlib.Core.Path.{_≡_};
 ghost use Prim.Native.Nat.{_+_, _*_, _<_};
 ghost use lib.ListN.{length};
-ghost use Rattle.tables.specs.Sound.{is-free, is-point, is-range, order-key, is-stamped, owed-before};
+ghost use Rattle.tables.specs.Sound.{is-free, is-point, is-range, is-stamped, owed-before};
 ghost use Rattle.forms.specs.Forms.{record-fits, row-fits};
 
 // What a chain is for decides which rows it may have.
@@ -15,15 +16,6 @@ pub enum Class {
     Free,
     Points,
     Ranges,
-}
-
-// One number orders points by docket and ranges by lo, then hi; it is wide, so that one more still fits.
-pub fn order_key(e: &[u32], s: usize) -> usize
-    requires { ⌜ 4 * s + 3 < length (now e) ⌝ }
-    ensures { λ r. ⌜ r ≡ order-key (now (e .entry)) s ⌝ }
-{
-    let span = e[4 * s + 1] as usize;
-    span % 65536 * 65536 + span / 65536
 }
 
 // A free slot is zero but for its next, so that nothing of a wiped record is left.

@@ -13,3 +13,8 @@ module _ {X : Type 0} where
   abbrev pub Ascending : (X → X → Bool) → List X → Type 0
   Ascending before [] = Unit {0}
   Ascending before (x ∷ xs) = All (λ y. before x y ≡ true) xs × Ascending before xs
+
+-- Some value has the property.
+pub record Exists {X : Type 0} (P : X → Type 0) : Type 0 where
+  pub value : X
+  pub has : P value

@@ -4,30 +4,23 @@ use mathlib.Core.Bool.{Bool, true, false, cond}
 use mathlib.Core.List.{List, [], _∷_, map}
 use Prim.Native.Nat.{ℕ, _<_}
 use native.Mathlib.Omega.{arith}
-use borrow.Author.Tests.{ne-eqb, lt-leb}
+use borrow.Author.Tests.{ne-eqb}
 use lib.Dec.{eqb}
 use Rattle.lists.specs.All.{All}
-use Rattle.lists.specs.Lists.{any}
 use Rattle.model.specs.Records.{Entry, value, tombstone, Point, Level}
 use Rattle.model.specs.Merge.{covered}
 use Rattle.model.specs.Lookup as model
 use Rattle.tables.specs.Words.{lo-of}
-use Rattle.tables.specs.Placed.{read-point, read-range}
+use Rattle.tables.specs.Placed.{read-point}
 use Rattle.lookup.specs.declared.Decided.{Decided}
 use Rattle.lookup.specs.declared.Decided.the-variants.{Value, Absent, Deeper}
 use Rattle.lookup.specs.Answers.{tells, decides, or-else, level-decides, settle}
 
-module _ (e : List ℕ) (k : ℕ) where
-  -- Records past the docket decide nothing.
-  pub decides-past : (ss : List ℕ) → All (λ s. k < lo-of e s) ss → decides (map (read-point e) ss) k ≡ Deeper
-  unfolding decides
-  decides-past [] a = refl
-  decides-past (s ∷ ss) a = rw (ne-eqb (lo-of e s) k (omega arith)) (decides-past ss (a .1))
-
-  pub covered-past : (ss : List ℕ) → All (λ s. k < lo-of e s) ss → covered (map (read-range e) ss) k ≡ false
-  unfolding any
-  covered-past [] a = refl
-  covered-past (s ∷ ss) a = rw (lt-leb (lo-of e s) k (omega arith)) (covered-past ss (a .1))
+-- Records past the docket decide nothing.
+pub decides-past : (e : List ℕ) (k : ℕ) (ss : List ℕ) → All (λ s. k < lo-of e s) ss → decides (map (read-point e) ss) k ≡ Deeper
+unfolding decides
+decides-past e k [] a = refl
+decides-past e k (s ∷ ss) a = rw (ne-eqb (lo-of e s) k (omega arith)) (decides-past e k ss (a .1))
 
 -- What is decided is what the model finds, with the deeper levels behind it.
 pub find-decides : (ps : List (Point ℕ ℕ)) (k : ℕ) (deeper : model.Found ℕ) → model.find ps k deeper ≡ settle (decides ps k) deeper

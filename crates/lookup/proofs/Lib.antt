@@ -1,5 +1,4 @@
 -- Laws of the walks and of the answers.
-pub mod Chains
 pub mod Answers
 pub mod Walks
 pub mod Levels

@@ -1,5 +1,4 @@
--- What a lookup in the tables answers, and what its walks rely on.
-pub mod Walks
+-- What a lookup in the tables answers, and what it relies on.
 pub mod Answers
 pub mod Readable
 pub mod Lookup

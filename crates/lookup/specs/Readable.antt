@@ -4,7 +4,7 @@ use mathlib.Core.List.{List}
 use Prim.Native.Nat.{ℕ, _+_, _*_, _≤_}
 use lib.ListN.{length}
 use Rattle.tables.specs.Words.{settings-of, level-row}
-use Rattle.lookup.specs.Walks.{Ordered}
+use Rattle.covers.specs.Walks.{Ordered}
 
 pub record Readable (e l : List ℕ) : Type 0 where
   pub rows : length l ≡ 4 * (settings-of l .deepest + 2)

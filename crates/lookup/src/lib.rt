@@ -1,16 +1,16 @@
 // Lookup of one docket in the two tables: levels from 0, and in each the points, then the ranges.
+use covers::is_covered;
 use rows::next_of;
 use soundness::table_refusal;
 ghost use mathlib.Core.Path.{_≡_};
 ghost use mathlib.Core.List.{map};
 ghost use Prim.Native.Nat.{_+_, _*_, _<_, _≤_};
 ghost use lib.ListN.{length};
-ghost use Rattle.model.specs.Merge.{covered};
 ghost use Rattle.model.specs.Lookup.{lookup};
 ghost use Rattle.tables.specs.Words.{settings-of};
 ghost use Rattle.tables.specs.Sound.{chain-from};
-ghost use Rattle.tables.specs.Placed.{read-point, read-range, read-level, read-state};
-ghost use Rattle.lookup.specs.Walks.{Ordered};
+ghost use Rattle.tables.specs.Placed.{read-point, read-level, read-state};
+ghost use Rattle.covers.specs.Walks.{Ordered};
 ghost use Rattle.lookup.specs.Answers.{tells, decides, level-decides, found-of};
 ghost use Rattle.lookup.specs.Readable.{Readable};
 ghost use Rattle.lookup.specs.Lookup.{lookup-tables};
@@ -91,25 +91,6 @@ fn find_point(e: &[u32], head: usize, docket: u32) -> Decided
         at = next_of(e, at);
     }
     Decided::Deeper
-}
-
-// Walks the ranges, which ascend by lo, no farther than the docket.
-fn is_covered(e: &[u32], head: usize, docket: u32) -> bool
-    requires { ⌜ Ordered (now e) head ⌝ }
-    ensures { λ r. ⌜ r ≡ covered (map (read-range (now (e .entry))) (chain-from (now (e .entry)) head)) docket ⌝ }
-{
-    let mut at = head;
-    while at != 0 {
-        let span = e[4 * at + 1];
-        if docket < span % BASE {
-            return false;
-        }
-        if docket <= span / BASE {
-            return true;
-        }
-        at = next_of(e, at);
-    }
-    false
 }
 
 // One level: its points first, then its ranges.

@@ -10,6 +10,7 @@ pub mod StepView
 pub mod Weights
 pub mod Slots
 pub mod Numbers
+pub mod Counted
 pub mod Lookups
 pub mod Deepest
 pub mod LookupSteps

@@ -98,6 +98,10 @@ module _ {S A : Type 0} where
       pass-keeps (Whole n) (whole-kept n c .deep) (whole-kept n c .merging) (c .clock) (prepared (c .clock) (c .op) s)
       (prepared-kept (Whole n) c (whole-kept n c) s f) .0
 
+  -- No more records are left than there were and one written.
+  pub held-most : (n : ℕ) (s : State S A) (c : Call A) → Whole n s → held-all (worked s c .state .levels) ≤ held-all (s .levels) + count-written (c .op)
+  held-most n s c f = omega (arith, worked-free s c (f .formed), f .all, worked-whole n s c f .all)
+
   -- purged + held after = held before + written.
   pub purged-sum : (n : ℕ) (s : State S A) (c : Call A) → Whole n s → accepted s c ≡ true
       → step s c .answer .purged + held-all (step s c .state .levels) ≡ held-all (s .levels) + count-written (c .op)
@@ -109,7 +113,7 @@ module _ {S A : Type 0} where
       go r (refused-4 d) h = absurd (false≢true h)
       go r (refused-5 d e) h = absurd (false≢true h)
       go r (refused-7 d e g) h = absurd (false≢true h)
-      go r (passed d e g) h = omega (arith, worked-free s c (f .formed), f .all, worked-whole n s c f .all)
+      go r (passed d e g) h = omega (arith, held-most n s c f)
 
   -- The most merges that a call allows: those that make room, the flush's own, and one a level in the pass.
   abbrev pub most-merges : ℕ → Op A → State S A → ℕ
@@ -117,25 +121,25 @@ module _ {S A : Type 0} where
   most-merges t flush s = 1 + s .settings .deepest
   most-merges t tick s = s .settings .deepest
 
-  merge-level-merges : (i : ℕ) (w : Work S A) → merge-level i w .merges ≤ w .merges + 1
+  pub merge-level-merges : (i : ℕ) (w : Work S A) → merge-level i w .merges ≤ w .merges + 1
   unfolding merge-level
   merge-level-merges i w = cond-elim (λ n. n ≤ w .merges + 1) (eqb (held (level i (w .state))) 0) (w .merges) (suc (w .merges)) (λ g. omega arith) (λ g. omega arith)
 
-  merge-all-merges : (s : State S A) → merge-all s .merges ≤ s .settings .deepest
+  pub merge-all-merges : (s : State S A) → merge-all s .merges ≤ s .settings .deepest
   unfolding merge-all
   merge-all-merges s =
       omega (arith, iterate-holds merge-level (λ i w. w .merges ≤ i) (s .settings .deepest) 0 (begin s) (λ i w a b h. omega (arith, merge-level-merges i w)) (omega arith))
 
-  pass-buffer-merges : (w : Work S A) → pass-buffer w .merges ≤ w .merges + 1
+  pub pass-buffer-merges : (w : Work S A) → pass-buffer w .merges ≤ w .merges + 1
   unfolding pass-buffer
   pass-buffer-merges w = cond-elim (λ (x : Work S A). x .merges ≤ w .merges + 1) (buffer-due (w .state)) (merge-level 0 w) w (λ g. merge-level-merges 0 w) (λ g. omega arith)
 
-  pass-level-merges : (t i : ℕ) (w : Work S A) → pass-level t i w .merges ≤ w .merges + 1
+  pub pass-level-merges : (t i : ℕ) (w : Work S A) → pass-level t i w .merges ≤ w .merges + 1
   unfolding pass-level
   pass-level-merges t i w = cond-elim (λ (x : Work S A). x .merges ≤ w .merges + 1) (due (w .state .settings) t i (level i (w .state))) (merge-level i w) w
       (λ g. merge-level-merges i w) (λ g. omega arith)
 
-  pass-merges-most : (t : ℕ) (w : Work S A) → 0 < w .state .settings .deepest → pass t w .merges ≤ w .merges + w .state .settings .deepest
+  pub pass-merges-most : (t : ℕ) (w : Work S A) → 0 < w .state .settings .deepest → pass t w .merges ≤ w .merges + w .state .settings .deepest
   unfolding pass
   pass-merges-most t w h =
       omega (

@@ -33,6 +33,14 @@ module _ {S A : Type 0} (s : State S A) (c : Call A) where
   unfolding finish accepted-outcome worked
   finish-accepts = rw (never-still-due (c .clock) (prepared (c .clock) (c .op) s))
 
+  pub step-accepts : bad-docket (c .op) ≡ false → bad-clock (c .clock) (s .clock) ≡ false → out-of-slots (c .clock) (c .op) s ≡ false → step s c ≡ accepted-outcome
+  unfolding step
+  step-accepts d e f = rw (d, e, f) finish-accepts
+
+  pub step-refuses : bad-docket (c .op) ≡ false → bad-clock (c .clock) (s .clock) ≡ false → out-of-slots (c .clock) (c .op) s ≡ true → step s c ≡ refused 7 (merge-all s .state)
+  unfolding step
+  step-refuses d e f = rw (d, e, f)
+
   pub step-view : StepView (step s c)
   unfolding step
   step-view =

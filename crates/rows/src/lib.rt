@@ -3,7 +3,7 @@ ghost use mathlib.Core.Path.{_≡_};
 ghost use Prim.Native.Nat.{_+_, _*_, _<_};
 ghost use lib.ListN.{length};
 ghost use Rattle.tables.specs.Words.{set-row, next-of, kind-of, lo-of, hi-of, tally-of, stamp-of, slots-of};
-ghost use Rattle.tables.specs.Sound.{entries-fit};
+ghost use Rattle.tables.specs.Sound.{entries-fit, order-key};
 
 // Slots are chained, and kinds stacked on them, at this base; so are lo and hi.
 const BASE: u32 = 65536;
@@ -74,6 +74,15 @@ pub fn stamp_of(e: &[u32], slot: usize) -> u32
     ensures { λ r. ⌜ r ≡ stamp-of (now (e .entry)) slot ⌝ }
 {
     e[4 * slot + 3]
+}
+
+// One number orders points by docket and ranges by lo, then hi; it is wide, so that one more still fits.
+pub fn order_key(e: &[u32], s: usize) -> usize
+    requires { ⌜ 4 * s + 3 < length (now e) ⌝ }
+    ensures { λ r. ⌜ r ≡ order-key (now (e .entry)) s ⌝ }
+{
+    let span = e[4 * s + 1] as usize;
+    span % 65536 * 65536 + span / 65536
 }
 
 // Writes the four words of one row.

@@ -1,11 +1,11 @@
 // The soundness check of the two tables: every chain followed once, with one mark for each slot.
 use forms::Class;
-use forms::order_key;
 use forms::row_fits;
 use marks::is_marked;
 use marks::mark;
 use rows::entries_fit;
 use rows::next_of;
+use rows::order_key;
 use rows::slot_count;
 use settings::Checked;
 use settings::Settings;

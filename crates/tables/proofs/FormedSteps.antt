@@ -19,7 +19,7 @@ use Rattle.lists.proofs.Counting.{sum-append, sum-map, sum-ones, count-sum}
 use Rattle.model.specs.Records.{Point, Level, State, empty, level}
 use Rattle.model.specs.Merge.{point-slots, range-slots, release, merged, settled, joined, point-goes}
 use Rattle.model.specs.Steps.{Write, put, delete, delete-range, single, unplaced, merge-state, merge-all, displaced, enter-at, enter, overwrite, set-points, wipe, act-deepest}
-use Rattle.model.specs.Calls.{Call, Outcome, written, bad-docket, bad-clock, step, run}
+use Rattle.model.specs.Calls.{Call, Outcome, written, bad-docket, bad-clock, timed, step, run}
 use Rattle.model.proofs.Keeps.{Kept, merge-all-keeps, step-keeps}
 use Rattle.model.proofs.StepView.{StepView, refused-4, refused-5, refused-7, passed, step-view, accepted-clock}
 use Rattle.model.proofs.Weights.{weigh-level, weight, merge-weight, enter-weight, act-weight}
@@ -76,7 +76,7 @@ module _ (t : ℕ) (p₀ : State ℕ ℕ) where
   unfolding joined settled
   joined-owes u l = refl
 
-  merge-at : (i : ℕ) (p : State ℕ ℕ) → i < p .settings .deepest → At t p₀ p → At t p₀ (merge-state i p)
+  pub merge-at : (i : ℕ) (p : State ℕ ℕ) → i < p .settings .deepest → At t p₀ p → At t p₀ (merge-state i p)
   unfolding merge-state
   merge-at i p h a = record {
     settings-ok = a .settings-ok;
@@ -117,7 +117,7 @@ module _ (t : ℕ) (p₀ : State ℕ ℕ) where
       slots = λ g. same g ∙ a .slots g;
     }
 
-    entered-at : (w : Write ℕ) (p : State ℕ ℕ) → bad-docket (written w) ≡ false → none (release (displaced t w p) (p .free)) ≡ false → At t p₀ p → At t p₀ (enter t w p)
+    pub entered-at : (w : Write ℕ) (p : State ℕ ℕ) → bad-docket (written w) ≡ false → none (release (displaced t w p) (p .free)) ≡ false → At t p₀ p → At t p₀ (enter t w p)
     unfolding enter
     entered-at w p ok room a = enter-at-at w p (release (displaced t w p) (p .free)) ok (λ g. enter-weight g t w p (omega (arith, a .size)) room) a
 
@@ -137,7 +137,7 @@ module _ (t : ℕ) (p₀ : State ℕ ℕ) where
         v : Level ℕ ℕ
         v = record { points = ps; ranges = level (p .settings .deepest) p .ranges; owed = level (p .settings .deepest) p .owed }
 
-    acted-at : (w : Write ℕ) (p : State ℕ ℕ) → At t p₀ p → At t p₀ (act-deepest t w p)
+    pub acted-at : (w : Write ℕ) (p : State ℕ ℕ) → At t p₀ p → At t p₀ (act-deepest t w p)
     unfolding act-deepest wipe
     acted-at (put k v) p a =
         set-points-at (map (overwrite k v t) (level (p .settings .deepest) p .points)) p (p .free)
@@ -160,7 +160,7 @@ at-kept p₀ c low ok = record {
 }
 
 -- A formed state is one at its own clock, and at any later one.
-later-formed : (t t′ : ℕ) (l : Level ℕ ℕ) → t ≤ t′ → LevelFormed t l → LevelFormed t′ l
+pub later-formed : (t t′ : ℕ) (l : Level ℕ ℕ) → t ≤ t′ → LevelFormed t l → LevelFormed t′ l
 later-formed t t′ l h f = record {
   keys = f .keys;
   points-ascend = f .points-ascend;
@@ -174,7 +174,7 @@ later-formed t t′ l h f = record {
   owed-empty = f .owed-empty;
 }
 
-formed-at : (n t : ℕ) (p : State ℕ ℕ) → p .clock ≤ t → Formed n p → At t p p
+pub formed-at : (n t : ℕ) (p : State ℕ ℕ) → p .clock ≤ t → Formed n p → At t p p
 formed-at n t p h f = record {
   settings-ok = f .settings-ok;
   size = f .size;
@@ -183,7 +183,7 @@ formed-at n t p h f = record {
   slots = λ g. refl;
 }
 
-at-formed : (n t : ℕ) (p q : State ℕ ℕ) → Formed n p → At t p q → q .clock ≡ t → Formed n q
+pub at-formed : (n t : ℕ) (p q : State ℕ ℕ) → Formed n p → At t p q → q .clock ≡ t → Formed n q
 at-formed n t p q f a e = record {
   few = f .few;
   many = f .many;
@@ -194,9 +194,16 @@ at-formed n t p q f a e = record {
   slots-once = same-once n p q (a .slots) (f .slots-once);
 }
 
-merge-clock : (i : ℕ) (p : State ℕ ℕ) → merge-state i p .clock ≡ p .clock
+pub merge-clock : (i : ℕ) (p : State ℕ ℕ) → merge-state i p .clock ≡ p .clock
 unfolding merge-state
 merge-clock i p = refl
+
+-- At a later clock it is formed as well.
+pub timed-formed : (n t : ℕ) (p : State ℕ ℕ) → p .clock ≤ t → Formed n p → Formed n (timed t p)
+timed-formed n t p h f = at-formed n t p (timed t p) f (record { settings-ok = a .settings-ok; size = a .size; levels-ok = a .levels-ok; owes-nothing = a .owes-nothing; slots = a .slots }) refl
+  where
+    a : At t p p
+    a = formed-at n t p h f
 
 -- Merged into level L, at the clock that it had.
 pub merge-all-formed : (n : ℕ) (p : State ℕ ℕ) → Formed n p → Formed n (merge-all p .state)

@@ -10,6 +10,7 @@ pub mod Back
 pub mod Linked
 pub mod LevelSound
 pub mod SoundWords
+pub mod Remains
 pub mod WordsSound
 pub mod FormedSound
 pub mod SoundChains

@@ -3,9 +3,9 @@ use mathlib.Core.Path.{_≡_, refl, sym, _∙_}
 use native.Mathlib.Omega.{arith}
 use lib.ListN.{length}
 use Rattle.tables.specs.Sound.{chain-from}
-use Rattle.lookup.specs.Walks.{Ordered}
-use Rattle.lookup.proofs.Walks.{points-say, points-end, points-past, points-here, points-next, shorter}
-use Rattle.lookup.proofs.Chains.{go-on}
+use Rattle.covers.specs.Walks.{Ordered}
+use Rattle.covers.proofs.Chains.{go-on, shorter}
+use Rattle.lookup.proofs.Walks.{points-say, points-end, points-past, points-here, points-next}
 use Rattle.lookup.proofs.find_point.Statement.{statement}
 use Rattle.lookup.proofs.find_point.Tie as tie
 

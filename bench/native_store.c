@@ -1,0 +1,249 @@
+/* The timed calls of document 01, written plainly in C: chains merged in place behind a tail pointer. */
+#include "native_store.h"
+
+#include "native_check.h"
+
+#include <stdbool.h>
+
+enum { PUT = 1, DELETE = 2, RANGE = 3, LAST_DOCKET = 65535 };
+
+enum native_coverage native_coverage = NATIVE_TRIMMED;
+int native_checks = 1;
+
+struct level {
+    uint32_t points, ranges, held, owed;
+};
+
+static uint32_t next_of(const uint32_t *e, uint32_t s) { return e[4 * s] & 65535; }
+static uint32_t kind_of(const uint32_t *e, uint32_t s) { return e[4 * s] >> 16; }
+static uint32_t lo_of(const uint32_t *e, uint32_t s) { return e[4 * s + 1] & 65535; }
+static uint32_t hi_of(const uint32_t *e, uint32_t s) { return e[4 * s + 1] >> 16; }
+static uint32_t key_of(const uint32_t *e, uint32_t s) { return lo_of(e, s) << 16 | hi_of(e, s); }
+
+static void set_next(uint32_t *e, uint32_t s, uint32_t next) { e[4 * s] = (e[4 * s] & ~65535u) | next; }
+
+static void release(uint32_t *e, uint32_t s) {
+    e[4 * s] = e[0], e[4 * s + 1] = e[4 * s + 2] = e[4 * s + 3] = 0;
+    e[0] = s;
+}
+
+static struct level *row(uint32_t *l, uint32_t i) { return (struct level *)(l + 4 * (i + 1)); }
+
+static bool walk_covers(const uint32_t *e, uint32_t r, uint32_t key) {
+    for (; r != 0 && lo_of(e, r) <= key; r = next_of(e, r))
+        if (key <= hi_of(e, r)) return true;
+    return false;
+}
+
+/* Lower points that the upper level leaves, merged with its points. */
+static uint32_t merge_points(uint32_t *e, uint32_t x, uint32_t r, uint32_t y, uint32_t *gone) {
+    uint32_t head = 0, tail = 0;
+    int64_t reach = -1;
+    while (x != 0 || y != 0) {
+        uint32_t at;
+        if (y == 0 || (x != 0 && lo_of(e, x) < lo_of(e, y))) {
+            at = x, x = next_of(e, x);
+        } else {
+            uint32_t key = lo_of(e, y);
+            bool goes = x != 0 && lo_of(e, x) == key;
+            if (!goes && native_coverage == NATIVE_RUNNING) {
+                for (; r != 0 && lo_of(e, r) <= key; r = next_of(e, r))
+                    if (reach < (int64_t)hi_of(e, r)) reach = hi_of(e, r);
+                goes = (int64_t)key <= reach;
+            } else if (!goes) {
+                if (native_coverage == NATIVE_TRIMMED)
+                    while (r != 0 && hi_of(e, r) < key) r = next_of(e, r);
+                goes = walk_covers(e, r, key);
+            }
+            at = y, y = next_of(e, y);
+            if (goes) {
+                release(e, at), ++*gone;
+                continue;
+            }
+        }
+        if (tail != 0) set_next(e, tail, at);
+        else head = at;
+        tail = at;
+    }
+    if (tail != 0) set_next(e, tail, 0);
+    return head;
+}
+
+static uint32_t merge_ranges(uint32_t *e, uint32_t x, uint32_t y, uint32_t *gone) {
+    uint32_t head = 0, tail = 0;
+    while (x != 0 || y != 0) {
+        uint32_t at;
+        if (y == 0 || (x != 0 && key_of(e, x) < key_of(e, y))) {
+            at = x, x = next_of(e, x);
+        } else if (x != 0 && key_of(e, x) == key_of(e, y)) {
+            if (e[4 * x + 3] < e[4 * y + 3]) e[4 * x + 3] = e[4 * y + 3];
+            at = y, y = next_of(e, y);
+            release(e, at), ++*gone;
+            continue;
+        } else {
+            at = y, y = next_of(e, y);
+        }
+        if (tail != 0) set_next(e, tail, at);
+        else head = at;
+        tail = at;
+    }
+    if (tail != 0) set_next(e, tail, 0);
+    return head;
+}
+
+static uint32_t earlier(uint32_t a, uint32_t b) { return a == 0 || (b != 0 && b < a) ? b : a; }
+
+/* Cells of a chain from lo to hi go; the deletes among them only, or all. */
+static uint32_t drop(uint32_t *e, uint32_t head, uint32_t lo, uint32_t hi, bool deletes, uint32_t *gone) {
+    uint32_t prior = 0;
+    for (uint32_t at = head, next; at != 0; at = next) {
+        next = next_of(e, at);
+        if (lo <= lo_of(e, at) && lo_of(e, at) <= hi && (!deletes || kind_of(e, at) == DELETE)) {
+            if (prior != 0) set_next(e, prior, next);
+            else head = next;
+            release(e, at), ++*gone;
+        } else {
+            prior = at;
+        }
+    }
+    return head;
+}
+
+static uint32_t merge_level(uint32_t *e, uint32_t *l, uint32_t i) {
+    struct level u = *row(l, i), *v = row(l, i + 1);
+    uint32_t gone = 0;
+    v->points = merge_points(e, u.points, u.ranges, v->points, &gone);
+    v->ranges = merge_ranges(e, u.ranges, v->ranges, &gone);
+    v->owed = earlier(u.owed, v->owed);
+    if (i + 1 == l[0]) {
+        v->points = drop(e, v->points, 0, LAST_DOCKET, true, &gone);
+        v->ranges = drop(e, v->ranges, 0, LAST_DOCKET, false, &gone);
+        v->owed = 0;
+    }
+    v->held += u.held - gone;
+    *row(l, i) = (struct level){0, 0, 0, 0};
+    return u.held != 0;
+}
+
+static uint64_t power(uint64_t t, uint32_t i) { return i == 0 ? 1 : t * power(t, i - 1); }
+
+static bool is_due(uint32_t *l, uint32_t i, uint32_t clock) {
+    const struct level *v = row(l, i);
+    if (l[2] * power(l[1], i) < v->held) return true;
+    uint64_t limit = (uint64_t)l[3] * (power(l[1], i) - 1) / (power(l[1], l[0] - 1) - 1);
+    return v->owed != 0 && limit <= clock - v->owed;
+}
+
+static uint32_t held_all(uint32_t *l) {
+    uint32_t held = 0;
+    for (uint32_t i = 0; i <= l[0]; i++) held += row(l, i)->held;
+    return held;
+}
+
+static struct native_answer refused(uint32_t number) { return (struct native_answer){number, 0, 0}; }
+
+static struct native_answer finish(uint32_t *e, uint32_t *l, uint32_t clock, uint32_t before, uint32_t merges) {
+    if (l[2] <= row(l, 0)->held) merges += merge_level(e, l, 0);
+    for (uint32_t i = 1; i < l[0]; i++)
+        if (is_due(l, i, clock)) merges += merge_level(e, l, i);
+    e[1] = clock;
+    return (struct native_answer){0, merges, before - held_all(l)};
+}
+
+static uint32_t refusal_of(const uint32_t *e, size_t ne, const uint32_t *l, size_t nl, uint32_t clock, uint32_t lo, uint32_t hi) {
+    uint32_t refusal = native_checks ? native_check(e, ne, l, nl) : 0;
+    if (refusal != 0) return refusal;
+    if (hi > LAST_DOCKET || hi < lo) return 4;
+    return clock == 0 || clock < e[1] ? 5 : 0;
+}
+
+static uint32_t find_span(const uint32_t *e, uint32_t at, uint32_t lo, uint32_t hi) {
+    while (at != 0 && (lo_of(e, at) != lo || hi_of(e, at) != hi)) at = next_of(e, at);
+    return at;
+}
+
+static uint32_t find_within(const uint32_t *e, uint32_t at, uint32_t lo, uint32_t hi) {
+    while (at != 0 && lo_of(e, at) < lo) at = next_of(e, at);
+    return at != 0 && lo_of(e, at) <= hi ? at : 0;
+}
+
+static uint32_t insert(uint32_t *e, uint32_t head, uint32_t slot) {
+    uint32_t prior = 0, at = head;
+    while (at != 0 && key_of(e, at) < key_of(e, slot)) prior = at, at = next_of(e, at);
+    set_next(e, slot, at);
+    if (prior == 0) return slot;
+    set_next(e, prior, slot);
+    return head;
+}
+
+static void enter(uint32_t *e, uint32_t *l, uint32_t clock, uint32_t kind, uint32_t lo, uint32_t hi, uint32_t tally) {
+    struct level *b = row(l, 0);
+    uint32_t gone = 0;
+    b->points = drop(e, b->points, lo, hi, false, &gone);
+    if (kind == RANGE) {
+        uint32_t same = find_span(e, b->ranges, lo, hi), prior = 0;
+        if (same != 0) {
+            for (uint32_t at = b->ranges; at != same; at = next_of(e, at)) prior = at;
+            if (prior != 0) set_next(e, prior, next_of(e, same));
+            else b->ranges = next_of(e, same);
+            release(e, same), gone++;
+        }
+    }
+    uint32_t slot = e[0];
+    e[0] = next_of(e, slot);
+    e[4 * slot] = kind << 16, e[4 * slot + 1] = lo | hi << 16, e[4 * slot + 2] = tally, e[4 * slot + 3] = clock;
+    if (kind == RANGE) b->ranges = insert(e, b->ranges, slot);
+    else b->points = insert(e, b->points, slot);
+    b->held = b->held + 1 - gone;
+    if (kind != PUT) b->owed = earlier(clock, b->owed);
+}
+
+static struct native_answer call_write(uint32_t *e, size_t ne, uint32_t *l, size_t nl, uint32_t clock, uint32_t kind, uint32_t lo, uint32_t hi, uint32_t tally) {
+    uint32_t refusal = refusal_of(e, ne, l, nl, clock, lo, hi);
+    if (refusal != 0) return refused(refusal);
+    uint32_t before = held_all(l) + 1, merges = 0;
+    struct level *b = row(l, 0);
+    if (e[0] == 0 && find_within(e, b->points, lo, hi) == 0 && !(kind == RANGE && find_span(e, b->ranges, lo, hi) != 0)) {
+        for (uint32_t i = 0; i < l[0]; i++) merges += merge_level(e, l, i);
+        if (e[0] == 0) {
+            struct level *deep = row(l, l[0]);
+            uint32_t gone = 0;
+            if (kind == PUT) {
+                uint32_t slot = find_span(e, deep->points, lo, lo);
+                if (slot == 0) return refused(7);
+                e[4 * slot + 2] = tally, e[4 * slot + 3] = clock;
+            } else {
+                deep->points = drop(e, deep->points, lo, hi, false, &gone);
+                deep->held -= gone;
+            }
+            return finish(e, l, clock, before, merges);
+        }
+    }
+    enter(e, l, clock, kind, lo, hi, tally);
+    return finish(e, l, clock, before, merges);
+}
+
+struct native_answer native_put(uint32_t *e, size_t ne, uint32_t *l, size_t nl, uint32_t clock, uint32_t docket, uint32_t tally) {
+    return call_write(e, ne, l, nl, clock, PUT, docket, docket, tally);
+}
+
+struct native_answer native_delete(uint32_t *e, size_t ne, uint32_t *l, size_t nl, uint32_t clock, uint32_t docket) {
+    return call_write(e, ne, l, nl, clock, DELETE, docket, docket, 0);
+}
+
+struct native_answer native_delete_range(uint32_t *e, size_t ne, uint32_t *l, size_t nl, uint32_t clock, uint32_t lo, uint32_t hi) {
+    return call_write(e, ne, l, nl, clock, RANGE, lo, hi, 0);
+}
+
+struct native_answer native_flush(uint32_t *e, size_t ne, uint32_t *l, size_t nl, uint32_t clock) {
+    uint32_t refusal = refusal_of(e, ne, l, nl, clock, 0, 0);
+    if (refusal != 0) return refused(refusal);
+    uint32_t before = held_all(l);
+    return finish(e, l, clock, before, merge_level(e, l, 0));
+}
+
+struct native_answer native_tick(uint32_t *e, size_t ne, uint32_t *l, size_t nl, uint32_t clock) {
+    uint32_t refusal = refusal_of(e, ne, l, nl, clock, 0, 0);
+    if (refusal != 0) return refused(refusal);
+    return finish(e, l, clock, held_all(l), 0);
+}

@@ -1,0 +1,24 @@
+#ifndef GUONTREM_NATIVE_STORE_H
+#define GUONTREM_NATIVE_STORE_H
+
+#include <stddef.h>
+#include <stdint.h>
+
+/* The timed calls of document 01 on the two tables, written plainly in C. */
+struct native_answer {
+    uint32_t refusal, merges, purged;
+};
+
+struct native_answer native_put(uint32_t *e, size_t ne, uint32_t *l, size_t nl, uint32_t clock, uint32_t docket, uint32_t tally);
+struct native_answer native_delete(uint32_t *e, size_t ne, uint32_t *l, size_t nl, uint32_t clock, uint32_t docket);
+struct native_answer native_delete_range(uint32_t *e, size_t ne, uint32_t *l, size_t nl, uint32_t clock, uint32_t lo, uint32_t hi);
+struct native_answer native_flush(uint32_t *e, size_t ne, uint32_t *l, size_t nl, uint32_t clock);
+struct native_answer native_tick(uint32_t *e, size_t ne, uint32_t *l, size_t nl, uint32_t clock);
+
+/* How a merge asks whether an upper range is over a lower point; for the measurement behind docs/DECISIONS.md. */
+enum native_coverage { NATIVE_WALK, NATIVE_TRIMMED, NATIVE_RUNNING };
+extern enum native_coverage native_coverage;
+/* Whether calls check the tables first, as document 01 asks. */
+extern int native_checks;
+
+#endif

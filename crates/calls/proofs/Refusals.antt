@@ -1,0 +1,114 @@
+-- Refusals of a call on tables of any content: their numbers, and what they leave.
+use mathlib.Core.Path.{_≡_, refl, sym, ap, _∙_}
+use mathlib.Core.Logic.{_≢_}
+use mathlib.Core.Bool.{Bool, true, false, cond}
+use mathlib.Core.List.{List}
+use Prim.Native.Nat.{ℕ, _≤_}
+use native.Mathlib.Omega.{arith}
+use lib.Dec.{eqb}
+use borrow.Author.Tests.{ne-eqb}
+use Rattle.lists.proofs.Bools.{cond-ap}
+use Rattle.model.specs.Records.{State}
+use Rattle.model.specs.Steps.{delete, delete-range, merge-all, no-slot}
+use Rattle.model.specs.Calls.{Call, Outcome, written, bad-docket, bad-clock, out-of-slots, refused, refusing, step}
+use Rattle.model.specs.Erasure.{accepted}
+use Rattle.model.proofs.StepView.{StepView, refused-4, refused-5, refused-7, passed, step-view, accepted-outcome}
+use Rattle.model.proofs.Demands as model
+use Rattle.tables.specs.Words.{slots-of, clock-of}
+use Rattle.tables.specs.Sound.{entries-fit, levels-fit, chains-sound, table-refusal}
+use Rattle.tables.specs.Placed.{read-state}
+use Rattle.tables.proofs.LevelSound.{Fits32}
+use Rattle.tables.proofs.FormedSound.{words-sound, sound-words}
+use Rattle.tables.proofs.FormedSteps.{step-formed}
+use Rattle.calls.specs.Calls.{Tables, Called, words, wrote, call-tables, refusal-number, merged-tables}
+
+-- The tables' own refusals are 1 to 3.
+pub tables-refuse-low : (e l : List ℕ) → table-refusal e l ≤ 3
+unfolding table-refusal
+tables-refuse-low e l = go (entries-fit e) (levels-fit l) (chains-sound e l)
+  where
+    go : (a b c : Bool) → cond a (cond b (cond c 0 3) 2) 1 ≤ 3
+    go true true true = omega arith
+    go true true false = omega arith
+    go true false c = omega arith
+    go false b c = omega arith
+
+module _ (w : Tables) (c : Call ℕ) where
+  abbrev p : State ℕ ℕ
+  p = read-state (w .entries) (w .levels)
+
+  abbrev t : ℕ
+  t = table-refusal (w .entries) (w .levels)
+
+  read-clock : p .clock ≡ clock-of (w .entries)
+  unfolding read-state
+  read-clock = refl
+
+  -- "each call … is refused in exactly the listed cases"
+  pub refused-exactly : call-tables w c .answer .refusal ≡ refusal-number w c
+  unfolding call-tables
+  refused-exactly =
+      cond-ap (λ (r : Called). r .answer .refusal) (eqb t 0) (wrote (slots-of (w .entries)) (step p c)) (record { tables = w; answer = refusing t })
+      ∙ ap (λ k. cond (eqb t 0) k t) (model.refused-exactly p c ∙ ap (λ k. cond (bad-docket (c .op)) 4 (cond (bad-clock (c .clock) k) 5 (cond (out-of-slots (c .clock) (c .op) p) 7 0))) read-clock)
+
+  step-answer : step p c .answer .refusal ≢ 0 → step p c .answer ≡ refusing (step p c .answer .refusal)
+  unfolding accepted
+  step-answer h = model.refused-answer p c (ne-eqb (step p c .answer .refusal) 0 h) ∙ ap refusing (sym (model.refused-exactly p c))
+
+  -- "A refusal gives its number and zeros."
+  pub refused-zeros : call-tables w c .answer .refusal ≢ 0 → call-tables w c .answer ≡ refusing (call-tables w c .answer .refusal)
+  unfolding call-tables
+  refused-zeros = go (eqb t 0)
+    where
+      go : (b : Bool) → cond b (wrote (slots-of (w .entries)) (step p c)) (record { tables = w; answer = refusing t }) .answer .refusal ≢ 0
+          → cond b (wrote (slots-of (w .entries)) (step p c)) (record { tables = w; answer = refusing t }) .answer
+          ≡ refusing (cond b (wrote (slots-of (w .entries)) (step p c)) (record { tables = w; answer = refusing t }) .answer .refusal)
+      go true h = step-answer h
+      go false h = refl
+
+  step-full : step p c .answer .refusal ≡ 7 → step p c .state ≡ merge-all p .state
+  unfolding accepted-outcome
+  step-full = go (step p c) (step-view p c)
+    where
+      go : (r : Outcome ℕ ℕ) → StepView p c r → r .answer .refusal ≡ 7 → r .state ≡ merge-all p .state
+      go r (refused-4 d) h = absurd (omega arith)
+      go r (refused-5 d e) h = absurd (omega arith)
+      go r (refused-7 d e f) h = refl
+      go r (passed d e f) h = absurd (omega arith)
+
+  -- Under 7 "tables stay merged, clock as before".
+  pub refused-7-leaves : call-tables w c .answer .refusal ≡ 7 → call-tables w c .tables ≡ merged-tables w
+  unfolding call-tables
+  refused-7-leaves = go (eqb t 0)
+    where
+      go : (b : Bool) → cond b (wrote (slots-of (w .entries)) (step p c)) (record { tables = w; answer = refusing t }) .answer .refusal ≡ 7
+          → cond b (wrote (slots-of (w .entries)) (step p c)) (record { tables = w; answer = refusing t }) .tables ≡ merged-tables w
+      go true h = ap (words (slots-of (w .entries))) (step-full h)
+      go false h = absurd (omega (arith, tables-refuse-low (w .entries) (w .levels)))
+
+  -- "A delete is never refused for lack of a slot", nor is anything but a put.
+  pub never-full : out-of-slots (c .clock) (c .op) p ≡ false → call-tables w c .answer .refusal ≢ 7
+  never-full f h = go (eqb t 0) (bad-docket (c .op)) (bad-clock (c .clock) (clock-of (w .entries))) (rw f at (sym refused-exactly ∙ h))
+    where
+      go : (a d b : Bool) → cond a (cond d 4 (cond b 5 (cond false 7 0))) t ≡ 7 → ⊥
+      go true true b q = absurd (omega arith)
+      go true false true q = absurd (omega arith)
+      go true false false q = absurd (omega arith)
+      go false d b q = absurd (omega (arith, tables-refuse-low (w .entries) (w .levels)))
+
+module _ (w : Tables) where
+  pub delete-never-full : (t k : ℕ) → call-tables w (record { clock = t; op = written (delete k) }) .answer .refusal ≢ 7
+  unfolding no-slot
+  delete-never-full t k = never-full w (record { clock = t; op = written (delete k) }) refl
+
+  pub delete-range-never-full : (t lo hi : ℕ) → call-tables w (record { clock = t; op = written (delete-range lo hi) }) .answer .refusal ≢ 7
+  unfolding no-slot
+  delete-range-never-full t lo hi = never-full w (record { clock = t; op = written (delete-range lo hi) }) refl
+
+  -- A call on sound tables, accepted or refused, leaves sound tables.
+  pub stays-sound : Fits32 (w .entries) → (c : Call ℕ) → table-refusal (w .entries) (w .levels) ≡ 0
+      → table-refusal (call-tables w c .tables .entries) (call-tables w c .tables .levels) ≡ 0
+  unfolding call-tables
+  stays-sound fits c h =
+      let p = read-state (w .entries) (w .levels) in
+      rw h (words-sound (slots-of (w .entries)) (step p c .state) (step-formed (slots-of (w .entries)) p c (sound-words (w .entries) (w .levels) fits h .formed)))

@@ -1,0 +1,7 @@
+-- Cells in chains, and what each change of a chain leaves.
+pub mod Links
+pub mod Cells
+pub mod Order
+pub mod Held
+pub mod Sifting
+pub mod Splicing

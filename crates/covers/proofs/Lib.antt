@@ -1,0 +1,4 @@
+-- Laws of chains and of the walks along them.
+pub mod Chains
+pub mod Walks
+pub mod Skips

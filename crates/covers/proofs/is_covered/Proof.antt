@@ -1,0 +1,82 @@
+-- `covers::is_covered` meets its contract. The loop's invariant: the chain from `at` is ordered, and its ranges say what those from `head` say.
+use mathlib.Core.Path.{_≡_, refl, sym, _∙_}
+use native.Mathlib.Omega.{arith}
+use lib.ListN.{length}
+use Rattle.tables.specs.Sound.{chain-from}
+use Rattle.covers.specs.Walks.{Ordered}
+use Rattle.covers.proofs.Walks.{ranges-say, ranges-end, ranges-past, ranges-here, ranges-next}
+use Rattle.covers.proofs.Chains.{go-on, shorter}
+use Rattle.covers.proofs.is_covered.Statement.{statement}
+use Rattle.covers.proofs.is_covered.Tie as tie
+
+abbrev Inv-loop : tie.InvT-loop
+Inv-loop e head docket at₀ at = Ordered e at × (ranges-say e at docket ≡ ranges-say e head docket)
+
+abbrev μ-loop : tie.MeasureT-loop
+μ-loop e head docket at₀ at = length (chain-from e at)
+
+loop-holds : tie.Need-loop-holds Inv-loop μ-loop
+loop-holds c = (c .before .pre, refl)
+
+mul-span : tie.Need-mul-span Inv-loop μ-loop
+mul-span c = let on = go-on _ _ (c .before .loop .inv .0) (c .loop-test .taken) in omega arith
+
+add-span : tie.Need-add-span Inv-loop μ-loop
+add-span c = let on = go-on _ _ (c .before .loop .inv .0) (c .loop-test .taken) in omega arith
+
+mul-span-2 : tie.Need-mul-span-2 Inv-loop μ-loop
+mul-span-2 c = let on = go-on _ _ (c .before .loop .inv .0) (c .loop-test .taken) in omega arith
+
+shared-slice-read-span : tie.Need-shared-slice-read-span Inv-loop μ-loop
+shared-slice-read-span c =
+    let on = go-on _ _ (c .before .before .loop .inv .0) (c .before .loop-test .taken) in
+    omega arith
+
+returns : tie.Need-returns Inv-loop μ-loop
+returns c =
+    let on = go-on _ _ (c .before .before .before .loop .inv .0) (c .before .before .loop-test .taken) in
+    sym (ranges-past _ _ _ on (λ i. omega (arith, c .before .shared-slice-known2 .given i)) (omega arith))
+    ∙ c .before .before .before .loop .inv .1
+
+returns-2 : tie.Need-returns-2 Inv-loop μ-loop
+returns-2 c =
+    let on = go-on _ _ (c .before .before .before .before .loop .inv .0) (c .before .before .before .loop-test .taken) in
+    sym (ranges-here _ _ _ on (omega arith) (omega arith)) ∙ c .before .before .before .before .loop .inv .1
+
+next-of-requires : tie.Need-next-of-requires Inv-loop μ-loop
+next-of-requires c κs =
+    go-on _ _ (c .before .before .before .before .loop .inv .0) (c .before .before .before .loop-test .taken) .within
+
+loop-less : tie.Need-loop-less Inv-loop μ-loop
+loop-less c =
+    let on = go-on _ _ (c .before .before .before .before .before .loop .inv .0) (c .before .before .before .before .loop-test .taken) in
+    rw (c .next-of .ensures) (shorter _ _ on)
+
+loop-again : tie.Need-loop-again Inv-loop μ-loop
+loop-again c =
+    let on = go-on _ _ (c .before .before .before .before .before .loop .inv .0) (c .before .before .before .before .loop-test .taken) in
+    rw (c .next-of .ensures)
+    (on .rest, sym (ranges-next _ _ _ on (omega arith) (omega arith)) ∙ c .before .before .before .before .before .loop .inv .1)
+
+returns-3 : tie.Need-returns-3 Inv-loop μ-loop
+returns-3 c =
+    let a = c .before .before .before .args in
+    sym (ranges-end (a .e .now) (c .before .loop .at) (a .docket) (c .loop-test .left)) ∙ c .before .loop .inv .1
+
+pub is-covered-spec : {M : Type 1} → statement M
+is-covered-spec =
+    tie.close
+    (tie.spec
+    Inv-loop
+    μ-loop
+    loop-holds
+    mul-span
+    add-span
+    mul-span-2
+    shared-slice-read-span
+    returns
+    returns-2
+    next-of-requires
+    loop-less
+    loop-again
+    returns-3)

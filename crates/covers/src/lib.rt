@@ -1,0 +1,47 @@
+// Walks along a chain that ask whether a record is over a docket.
+use rows::hi_of;
+use rows::next_of;
+ghost use mathlib.Core.Path.{_≡_};
+ghost use mathlib.Core.List.{map};
+ghost use Rattle.model.specs.Merge.{covered};
+ghost use Rattle.tables.specs.Sound.{chain-from};
+ghost use Rattle.tables.specs.Placed.{read-range};
+ghost use Rattle.covers.specs.Walks.{Ordered};
+ghost use Rattle.covers.specs.Skips.{first-slot, reaching};
+
+// Lo and hi are stacked in a word at this base.
+const BASE: u32 = 65536;
+
+// Walks the records, which ascend by lo, no farther than the docket.
+pub fn is_covered(e: &[u32], head: usize, docket: u32) -> bool
+    requires { ⌜ Ordered (now e) head ⌝ }
+    ensures { λ r. ⌜ r ≡ covered (map (read-range (now (e .entry))) (chain-from (now (e .entry)) head)) docket ⌝ }
+{
+    let mut at = head;
+    while at != 0 {
+        let span = e[4 * at + 1];
+        if docket < span % BASE {
+            return false;
+        }
+        if docket <= span / BASE {
+            return true;
+        }
+        at = next_of(e, at);
+    }
+    false
+}
+
+// Passes the records that end before the docket: what is left says the same of it, and of every later one.
+pub fn skip(e: &[u32], from: usize, docket: u32) -> usize
+    requires { ⌜ Ordered (now e) from ⌝ }
+    ensures { λ r. ⌜ r ≡ first-slot (reaching (now (e .entry)) docket (chain-from (now (e .entry)) from)) ⌝ }
+{
+    let mut at = from;
+    while at != 0 {
+        if docket <= hi_of(e, at) {
+            return at;
+        }
+        at = next_of(e, at);
+    }
+    0
+}

@@ -1,0 +1,2 @@
+-- Two levels and the one that they become.
+pub mod Joining

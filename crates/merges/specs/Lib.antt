@@ -1,0 +1,3 @@
+-- The two tables as the code of the merges meets them.
+pub mod Laid
+pub mod Rows

@@ -1,0 +1,2 @@
+-- Whether a level is due.
+pub mod Due

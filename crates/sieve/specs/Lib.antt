@@ -1,0 +1,2 @@
+-- Which cells go.
+pub mod Doomed

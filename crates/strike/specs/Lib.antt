@@ -1,0 +1,2 @@
+-- Lower points held against an upper level.
+pub mod Striking

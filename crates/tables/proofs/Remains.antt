@@ -1,0 +1,41 @@
+-- Nothing of an erased record remains in sound tables: a free slot is zero but for its next, and a delete has no tally.
+use mathlib.Core.Path.{_≡_, _∙_}
+use mathlib.Core.Logic.{_≢_}
+use mathlib.Core.Bool.{true, _&&_, _||_}
+use mathlib.Core.List.{List, _++_}
+use Prim.Native.Nat.{ℕ, _+_, _*_, _≤_}
+use native.Mathlib.Omega.{arith}
+use lib.Dec.{eqb, leb}
+use borrow.Author.Tests.{eqb-true, ne-eqb}
+use Rattle.lists.specs.All.{All}
+use Rattle.lists.proofs.Bools.{and-right, or-second}
+use Rattle.lists.proofs.Tests.{all-weaken, all-append}
+use Rattle.tables.specs.Words.{row-of, next-of, kind-of, lo-of, hi-of, tally-of, settings-of}
+use Rattle.tables.specs.Sound.{free-chain, point-chain, range-chain, is-free, is-point, is-range, table-refusal}
+use Rattle.tables.proofs.Linked.{free-written}
+use Rattle.tables.proofs.SoundWords.{sound-facts}
+
+module _ (e l : List ℕ) (sound : table-refusal e l ≡ 0) where
+  free-blank : (s : ℕ) → is-free e s ≡ true → row-of e s ≡ record { w0 = next-of e s; w1 = 0; w2 = 0; w3 = 0 }
+  free-blank s f = let only : next-of e s + 65536 * 0 ≡ next-of e s = omega arith in free-written e s f ∙ rw only
+
+  pub free-slots-blank : All (λ s. row-of e s ≡ record { w0 = next-of e s; w1 = 0; w2 = 0; w3 = 0 }) (free-chain e)
+  free-slots-blank = all-weaken _ _ free-blank (free-chain e) (sound-facts e l sound .free-forms)
+
+  point-blank : (s : ℕ) → is-point e s ≡ true → kind-of e s ≢ 1 → tally-of e s ≡ 0
+  point-blank s f n =
+      let kinds = and-right (eqb (lo-of e s) (hi-of e s)) (eqb (kind-of e s) 1 || (eqb (kind-of e s) 2 && eqb (tally-of e s) 0)) f in
+      let two = or-second (eqb (kind-of e s) 1) (eqb (kind-of e s) 2 && eqb (tally-of e s) 0) kinds (ne-eqb (kind-of e s) 1 n) in
+      eqb-true (tally-of e s) 0 (and-right (eqb (kind-of e s) 2) (eqb (tally-of e s) 0) two)
+
+  range-blank : (s : ℕ) → is-range e s ≡ true → tally-of e s ≡ 0
+  range-blank s f =
+      let three = and-right (leb (lo-of e s) (hi-of e s)) (eqb (kind-of e s) 3 && eqb (tally-of e s) 0) f in
+      eqb-true (tally-of e s) 0 (and-right (eqb (kind-of e s) 3) (eqb (tally-of e s) 0) three)
+
+  -- Only a put has a tally.
+  pub deletes-blank : (i : ℕ) → i ≤ settings-of l .deepest → All (λ s. kind-of e s ≢ 1 → tally-of e s ≡ 0) (point-chain e l i ++ range-chain e l i)
+  deletes-blank i h =
+      let f = sound-facts e l sound .levels i h in
+      all-append _ (point-chain e l i) (range-chain e l i) (all-weaken _ _ point-blank (point-chain e l i) (f .point-forms))
+      (all-weaken _ _ (λ s r n. range-blank s r) (range-chain e l i) (f .range-forms))

@@ -1,0 +1,2 @@
+-- Ranges of two levels, united.
+pub mod Uniting
