@@ -4,11 +4,16 @@ import pathlib
 
 ROOT = pathlib.Path(__file__).parent.parent
 STAMP_UNIT = 1 << 32
+MERGES_UNIT, REFUSAL_UNIT = 1 << 32, 1 << 40
 
 _words = ctypes.POINTER(ctypes.c_uint32)
 _tables = [_words, ctypes.c_size_t, _words, ctypes.c_size_t]
 _library = ctypes.CDLL(str(ROOT / "target" / "libguontrem.so"))
-for _name, _numbers, _answer in (("check", 0, ctypes.c_uint32), ("make", 4, ctypes.c_uint32), ("lookup", 1, ctypes.c_uint64)):
+_names = {"check": (0, ctypes.c_uint32), "make": (4, ctypes.c_uint32), "lookup": (1, ctypes.c_uint64)}
+# The timed calls by the letters of document 01's script: a clock, then the other numbers.
+TIMED = {"P": "put", "D": "delete", "R": "delete_range", "F": "flush", "T": "tick"}
+_names |= {name: (numbers, ctypes.c_uint64) for name, numbers in (("put", 3), ("delete", 2), ("delete_range", 3), ("flush", 1), ("tick", 1))}
+for _name, (_numbers, _answer) in _names.items():
     _call = getattr(_library, f"guontrem_{_name}")
     _call.argtypes = _tables + [ctypes.c_uint32] * _numbers
     _call.restype = _answer
@@ -42,3 +47,37 @@ def lookup(entries, levels, docket):
     answer = _read(_library.guontrem_lookup, entries, levels, docket)
     stamp, rest = divmod(answer, STAMP_UNIT)
     return (0, 1, rest, stamp) if stamp else (rest, 0, 0, 0)
+
+
+class Store:
+    """Two tables that stay lent from call to call."""
+
+    def __init__(self, entries, levels):
+        self._entry_words, self._level_words = len(entries), len(levels)
+        self._entries = (ctypes.c_uint32 * max(1, len(entries)))(*entries)
+        self._levels = (ctypes.c_uint32 * max(1, len(levels)))(*levels)
+
+    def _call(self, name, *numbers):
+        return getattr(_library, f"guontrem_{name}")(self._entries, self._entry_words, self._levels, self._level_words, *numbers)
+
+    def words(self):
+        return bytes(self._entries)[:4 * self._entry_words], bytes(self._levels)[:4 * self._level_words]
+
+    def tables(self):
+        return list(self._entries)[:self._entry_words], list(self._levels)[:self._level_words]
+
+    def make(self, *settings):
+        return self._call("make", *settings)
+
+    def check(self):
+        return self._call("check")
+
+    def call(self, letter, *numbers):
+        """Document 01's three numbers: refusal, merges, purged."""
+        answer = self._call(TIMED[letter], *numbers)
+        return (answer // REFUSAL_UNIT, answer % REFUSAL_UNIT // MERGES_UNIT, answer % MERGES_UNIT)
+
+    def lookup(self, docket):
+        """Document 01's four numbers: refusal, found, tally, stamp."""
+        stamp, rest = divmod(self._call("lookup", docket), STAMP_UNIT)
+        return (0, 1, rest, stamp) if stamp else (rest, 0, 0, 0)

@@ -23,6 +23,8 @@ class Store:
         self.clock = 0
         self.levels = [Level() for _ in range(l + 1)]
         self.merges = 0
+        # What became of the last call: it acted on level L directly; level 0 was merged before its pass, or in it.
+        self.direct = self.merged_before = self.merged_in_pass = False
 
     def limit(self, i):
         return self.d * (self.t ** i - 1) // (self.t ** (self.l - 1) - 1)
@@ -66,12 +68,14 @@ class Store:
     def the_pass(self, t):
         if self.levels[0].held() >= self.b:
             self.merge(0)
+            self.merged_in_pass = True
         for i in range(1, self.l):
             if self.due(i, t):
                 self.merge(i)
 
     def call(self, op, t, *args):
         """The answer: refusal, merges, purged."""
+        self.direct = self.merged_before = self.merged_in_pass = False
         if op == 'P' and args[0] > 65535 or op == 'D' and args[0] > 65535 or op == 'R' and (args[1] > 65535 or args[0] > args[1]):
             return (4, 0, 0)
         if t == 0 or t < self.clock:
@@ -90,12 +94,11 @@ class Store:
                 w.owed = t
             b = self.levels[0]
             frees = any(self.goes(w, k) for k in b.points) or any(r in b.ranges for r in w.ranges)
-            direct = False
             if self.free() == 0 and not frees:
                 for i in range(self.l):
                     self.merge(i)
-                direct = self.free() == 0
-            if direct:
+                self.merged_before, self.direct = True, self.free() == 0
+            if self.direct:
                 deep = self.levels[self.l]
                 if op == 'P':
                     if args[0] not in deep.points:
@@ -107,6 +110,7 @@ class Store:
                 self.join(w, self.levels[0], False)
         elif op == 'F':
             self.merge(0)
+            self.merged_before = True
         self.the_pass(t)
         self.clock = t
         return (0, self.merges, before + written - self.held())

@@ -11,7 +11,7 @@ use Rattle.tables.proofs.Rows.{InTable, length-set-row, row-other, row-same}
 use Rattle.chains.specs.Links.{linked, released, stamped}
 
 -- The first word of a row changed.
-first-other : (e : List ℕ) (s v t : ℕ) → t ≢ s → row-of (set e (4 * s) v) t ≡ row-of e t
+pub first-other : (e : List ℕ) (s v t : ℕ) → t ≢ s → row-of (set e (4 * s) v) t ≡ row-of e t
 first-other e s v t ne =
     let n0 : 4 * t ≢ 4 * s = λ q. ne (omega arith) in
     let n1 : 4 * t + 1 ≢ 4 * s = λ q. absurd (omega arith) in
@@ -19,7 +19,7 @@ first-other e s v t ne =
     let n3 : 4 * t + 3 ≢ 4 * s = λ q. absurd (omega arith) in
     simp (getD-set-other, n0, n1, n2, n3)
 
-first-same : (e : List ℕ) (s v : ℕ) → 4 * s < length e → row-of (set e (4 * s) v) s ≡ record { w0 = v; w1 = row-of e s .w1; w2 = row-of e s .w2; w3 = row-of e s .w3 }
+pub first-same : (e : List ℕ) (s v : ℕ) → 4 * s < length e → row-of (set e (4 * s) v) s ≡ record { w0 = v; w1 = row-of e s .w1; w2 = row-of e s .w2; w3 = row-of e s .w3 }
 first-same e s v h =
     let n1 : 4 * s + 1 ≢ 4 * s = λ q. absurd (omega arith) in
     let n2 : 4 * s + 2 ≢ 4 * s = λ q. absurd (omega arith) in

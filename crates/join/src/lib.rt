@@ -18,7 +18,7 @@ pub struct Level {
 }
 
 // Owed becomes the earlier one that is not zero.
-fn earlier(a: u32, b: u32) -> u32
+pub fn earlier(a: u32, b: u32) -> u32
     ensures { λ r. ⌜ r ≡ earlier a b ⌝ }
 {
     if a == 0 {

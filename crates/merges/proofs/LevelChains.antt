@@ -26,7 +26,7 @@ module _ (n : ℕ) (e : List ℕ) where
   ranges-out (l ∷ ls) zero a = a .1 .0
   ranges-out (l ∷ ls) (suc i) a = ranges-out ls i (a .1 .1)
 
-  others-stay : (ls : List (Level ℕ ℕ)) (i : ℕ) → AllChained n e (level-chains ls) → AllChained n e (level-chains (set ls i empty))
+  pub others-stay : (ls : List (Level ℕ ℕ)) (i : ℕ) → AllChained n e (level-chains ls) → AllChained n e (level-chains (set ls i empty))
   others-stay [] i a = tt
   others-stay (l ∷ ls) zero a = (tt, (tt, a .1 .1))
   others-stay (l ∷ ls) (suc i) a = (a .0, (a .1 .0, others-stay ls i (a .1 .1)))
@@ -45,7 +45,7 @@ module _ (f : ℕ → ℕ) where
   abbrev pub weigh-pair : Level ℕ ℕ → ℕ
   weigh-pair l = sum f (cell-slots (map point-cell (l .points))) + sum f (cell-slots (map range-cell (l .ranges)))
 
-  weigh-out : (ls : List (Level ℕ ℕ)) (i : ℕ) → weigh f (level-chains ls) ≡ weigh-pair (getD ls i empty) + weigh f (level-chains (set ls i empty))
+  pub weigh-out : (ls : List (Level ℕ ℕ)) (i : ℕ) → weigh f (level-chains ls) ≡ weigh-pair (getD ls i empty) + weigh f (level-chains (set ls i empty))
   unfolding sum
   weigh-out [] i = omega arith
   weigh-out (l ∷ ls) zero = omega arith

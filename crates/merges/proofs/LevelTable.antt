@@ -20,7 +20,7 @@ abbrev pub no-row : Row
 no-row = record { w0 = 0; w1 = 0; w2 = 0; w3 = 0 }
 
 -- A row of the words is written as a row of the list.
-row-words-set : (rs : List Row) (k : ℕ) (r : Row) → k < length rs → row-words (set rs k r) ≡ set-row (row-words rs) k r
+pub row-words-set : (rs : List Row) (k : ℕ) (r : Row) → k < length rs → row-words (set rs k r) ≡ set-row (row-words rs) k r
 row-words-set rs k r h =
     rows-equal (length rs) (row-words (set rs k r)) (set-row (row-words rs) k r)
     (length-row-words (set rs k r) ∙ ap (λ m. 4 * m) (length-set rs k r)) (length-set-row (row-words rs) k r ∙ length-row-words rs) (λ s b. at s b (ℕ-discrete s k))

@@ -51,7 +51,7 @@ same-pair-slots : (g : Store) (i : ℕ) → SameSlots (all-chains (g .state)) (p
 same-pair-slots g i f = omega (arith, weigh-pair-out f (g .state .levels) i)
 
 -- The row of a level, as the code reads it.
-read-level : (g : Store) (e l : List ℕ) → Laid g e l → (i : ℕ) → i ≤ g .state .settings .deepest → level-at l i ≡ level-of (level i (g .state))
+pub read-level : (g : Store) (e l : List ℕ) → Laid g e l → (i : ℕ) → i ≤ g .state .settings .deepest → level-at l i ≡ level-of (level i (g .state))
 read-level g e l laid i h = ap (λ (r : Row). record { points = r .w0; ranges = r .w1; held = r .w2; owed = r .w3 }) (laid-row g e l laid i h)
 
 -- And as it writes it, of the level that is left.

@@ -1,0 +1,7 @@
+-- What each part of a timed call leaves is what the definition of the call says.
+pub mod Begun
+pub mod Preparing
+pub mod Ends
+pub mod Laying
+pub mod Finishing
+pub mod Writing

@@ -1,0 +1,2 @@
+-- What the parts of a timed call hand on.
+pub mod Coded

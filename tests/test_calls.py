@@ -1,0 +1,165 @@
+"""The timed calls of the proved library: document 01's cases, long random lists against its steps written plainly, damaged tables,
+and twin runs in which one put carries another tally."""
+import random
+import unittest
+
+import library
+import reference
+import tables
+from cases import CASES
+from tables import PUT
+from test_tables import damage, random_tables
+
+LETTERS = "PPPPDDRFTT"
+
+
+def made(n, l, t, b, d):
+    store = library.Store([0xdead] * (4 * (n + 1)), [0xbeef] * (4 * (l + 2)))
+    assert store.make(l, t, b, d) == 0
+    return store
+
+
+def read_levels(entries, levels):
+    """Each level read along its chains: points, ranges and owed, as the reference keeps them."""
+    for i in range(levels[0] + 1):
+        points, ranges, _, owed = levels[4 * (i + 1):4 * (i + 2)]
+        rows = [[tables.Row(entries, s) for s in tables.chain(entries, head)] for head in (points, ranges)]
+        yield {p.lo: (p.kind, p.tally, p.stamp) for p in rows[0]}, {(r.lo, r.hi): r.stamp for r in rows[1]}, owed
+
+
+def load(entries, levels):
+    """The reference in the state that sound tables read as."""
+    store = reference.Store(len(entries) // 4 - 1, *levels[:4])
+    store.clock = entries[1]
+    for level, (level.points, level.ranges, level.owed) in zip(store.levels, read_levels(entries, levels)):
+        pass
+    return store
+
+
+def random_call(rng, clock, dockets, term):
+    letter = rng.choice(LETTERS)
+    t = max(0, clock + rng.choice((0, 0, 0, 1, 1, 1, 2, term, -1, rng.randrange(2 * term + 2))))
+    a, b = sorted((rng.randrange(dockets), rng.randrange(dockets)))
+    odd = rng.random()
+    if odd < 0.01:
+        a, b = b + 1, a
+    elif odd < 0.02:
+        a, b = 65536, 65536 + rng.randrange(5)
+    return {"P": ("P", t, a, rng.getrandbits(32)), "D": ("D", t, a), "R": ("R", t, a, b), "F": ("F", t), "T": ("T", t)}[letter]
+
+
+def random_settings(rng, n):
+    l = rng.randint(2, 6)
+    return n, l, rng.randint(2, 10), rng.choice((1, 2, 3, 8, 64)), rng.choice((1, 2, 9, 40, 1000))
+
+
+class Document01(unittest.TestCase):
+    def test_cases(self):
+        for name, settings, calls, answers in CASES:
+            with self.subTest(name):
+                store = made(*settings)
+                self.assertEqual([store.lookup(c[1])[1:] if c[0] == "G" else store.call(*c) for c in calls], answers)
+
+
+class Random(unittest.TestCase):
+    def same(self, store, expected, call, note):
+        """One call on both; the answers, and every level read along its chains, are the same."""
+        before = store.words()
+        answer = store.call(*call)
+        self.assertEqual(answer, expected.call(*call), note)
+        if answer[0] not in (0, 7):
+            self.assertEqual(store.words(), before, note)
+            return answer
+        entries, levels = store.tables()
+        self.assertEqual(tables.refusal(entries, levels), 0, note)
+        self.assertEqual(entries[1], expected.clock, note)
+        self.assertEqual(list(read_levels(entries, levels)), [(x.points, x.ranges, x.owed) for x in expected.levels], note)
+        return answer
+
+    def test_lists_from_a_fresh_store(self):
+        seed = random.randrange(1 << 32)
+        rng, met = random.Random(seed), {}
+        for n, lists, calls in ((1, 30, 60), (3, 60, 100), (10, 60, 200), (60, 20, 400), (400, 3, 1200)):
+            for _ in range(lists):
+                settings = random_settings(rng, n)
+                store, expected = made(*settings), reference.Store(*settings)
+                dockets = rng.choice((n + 1, 2 * n + 2, 65536))
+                for i in range(calls):
+                    call = random_call(rng, expected.clock, dockets, settings[4])
+                    note = f"seed {seed}: {settings}, call {i}: {call}"
+                    answer = self.same(store, expected, call, note)
+                    met[answer[0]] = met.get(answer[0], 0) + 1
+                    docket = rng.randrange(dockets)
+                    self.assertEqual(store.lookup(docket)[1:], expected.lookup(docket), note)
+        self.assertEqual(set(met), {0, 4, 5, 7}, f"seed {seed}: an outcome was not met")
+        print(f"seed {seed}: {sum(met.values())} calls; " + ", ".join(f"{met[k]} answered {k}" for k in sorted(met)))
+
+    def test_any_tables(self):
+        """Sound tables that no list of calls reaches, and damaged ones, which are refused and stay as they are."""
+        seed = random.randrange(1 << 32)
+        rng, met = random.Random(seed), {}
+        for _ in range(3000):
+            entries, levels = random_tables(rng)
+            for e, l in [(entries, levels)] + [damage(rng, entries, levels) for _ in range(2)]:
+                refusal, store = tables.refusal(e, l), library.Store(e, l)
+                call = random_call(rng, e[1] if len(e) > 1 else 1, 30, 9)
+                note = f"seed {seed}: {e} {l} {call}"
+                if refusal:
+                    self.assertEqual((store.call(*call), store.tables()), ((refusal, 0, 0), (e, l)), note)
+                    met[refusal] = met.get(refusal, 0) + 1
+                elif call[1] < 1 << 32:
+                    met[0] = met.get(0, 0) + 1
+                    self.same(store, load(e, l), call, note)
+        self.assertEqual(set(met), {0, 1, 2, 3}, f"seed {seed}: an outcome was not met")
+        print(f"seed {seed}: " + ", ".join(f"{met[k]} tables answered {k}" for k in sorted(met)))
+
+
+def covers(call, docket):
+    return call[0] == "D" and call[2] == docket or call[0] == "R" and call[2] <= docket <= call[3]
+
+
+class Twins(unittest.TestCase):
+    """Demand 3 on the built code: two runs that differ in the tally of one put have the same words once the put is erased."""
+
+    def run_twins(self, rng, settings, calls, note):
+        """Whether the words ever differed, and whether the put was erased by the end of the list."""
+        puts = [i for i, c in enumerate(calls) if c[0] == "P"]
+        chosen = rng.choice(puts)
+        docket = calls[chosen][2]
+        other = list(calls)
+        other[chosen] = calls[chosen][:3] + (calls[chosen][3] ^ (1 << rng.randrange(32)),)
+        one, two, steps = made(*settings), made(*settings), reference.Store(*settings)
+        waiting, gone, differed, erased = [], [], False, False
+        for i, (a, b) in enumerate(zip(calls, other)):
+            answer = one.call(*a)
+            self.assertEqual(answer, two.call(*b), note)
+            self.assertEqual(answer, steps.call(*a), note)
+            # Merging before a delete's own entry does not count; a put refused 7 has merged the buffer too.
+            if steps.merged_before or steps.merged_in_pass:
+                gone, waiting = gone + waiting, []
+            if answer[0] == 0 and i > chosen and covers(a, docket):
+                (gone if steps.direct or steps.merged_in_pass else waiting).append(a[1])
+            erased = erased or (answer[0] == 0 and any(a[1] - d >= settings[4] for d in gone))
+            same = one.words() == two.words()
+            differed = differed or not same
+            self.assertTrue(same or not erased, f"{note}, call {i}: words differ")
+        return differed, erased
+
+    def test_erased_tallies_leave_nothing(self):
+        seed = random.randrange(1 << 32)
+        rng, differed, erased, both = random.Random(seed), 0, 0, 0
+        for n, lists, length in ((1, 100, 40), (2, 200, 60), (5, 300, 120), (30, 100, 300), (300, 10, 1500)):
+            for k in range(lists):
+                settings = random_settings(rng, n)
+                dockets, clock, calls = rng.choice((n, n + 1, 3 * n)), 0, [("P", 1, 0, 7)]
+                for _ in range(length):
+                    calls.append(random_call(rng, clock, dockets, settings[4]))
+                    clock = max(clock, calls[-1][1])
+                d, e = self.run_twins(rng, settings, calls, f"seed {seed}: list {k} of {settings}")
+                differed, erased, both = differed + d, erased + e, both + (d and e)
+        self.assertGreater(both, 50, f"seed {seed}: the twins hardly ever differed and then agreed")
+        print(f"seed {seed}: {differed} lists in which words differed, {erased} in which the put was erased, {both} in which both held")
+
+
+if __name__ == "__main__":
+    unittest.main()
