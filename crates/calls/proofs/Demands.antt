@@ -78,9 +78,10 @@ module _ (n : ℕ) (s : Settings) (low : 1 ≤ n) (high : n ≤ 65535) (ok : all
       let number : call-tables w c .answer .refusal ≡ cond (out-of-slots t (written (put k a)) (after cs)) 7 0 =
       refused-exactly w c ∙ rw (always-sound cs, le-ltb 65535 k h, b, reads cs) in
       let full = model.full-exactly s ok (upto n) cs t k a in
-      let same = live-words n m (merge-all-formed n (after cs) (formed cs)) k in
-      (λ q. rw merged (same .0 (rw (length-upto n) at (full .0 (seven (out-of-slots t (written (put k a)) (after cs)) (sym number ∙ q))))),
-      λ q. number ∙ ap (λ x. cond x 7 0) (full .1 (subst (λ x. live.SlotsLive x k m) (sym (length-upto n)) (same .1 (rw merged at q)))))
+      let same = live-words n m (merge-all-formed n (after cs) (formed cs)) k in (
+        λ q. rw merged (same .0 (rw (length-upto n) at (full .0 (seven (out-of-slots t (written (put k a)) (after cs)) (sym number ∙ q))))),
+        λ q. number ∙ ap (λ x. cond x 7 0) (full .1 (subst (λ x. live.SlotsLive x k m) (sym (length-upto n)) (same .1 (rw merged at q)))),
+      )
 
   -- DEMAND 2: lookups answer as the plain map after the same list.
   pub lookups-as-map : (cs : List (Call ℕ)) (k : ℕ) → k ≤ 65535

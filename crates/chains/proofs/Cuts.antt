@@ -126,7 +126,7 @@ module _ (n clock : ℕ) (free : List ℕ) (done : List Cell) (h : ℕ) (x : Cel
         start = start-stays (released e s) off;
         each = ((first-inside .0, first-inside .1, wiped≡, stay .0), stay .1);
         once = still-once n (done ∷ map free-cell free ∷ (x ∷ xs) ∷ others) (done ∷ map free-cell (s ∷ free) ∷ xs ∷ others)
-        (λ f. omega (arith, sum-cell f x xs, sum-cell f (free-cell s) (map free-cell free))) (c .once);
+            (λ f. omega (arith, sum-cell f x xs, sum-cell f (free-cell s) (map free-cell free))) (c .once);
       }
 
   -- It becomes another cell of the same slot, linked as before, in a table that has its row.
@@ -141,7 +141,7 @@ module _ (n clock : ℕ) (free : List ℕ) (done : List Cell) (h : ℕ) (x : Cel
         start = start-stays e′ off;
         each = (stay .0, ((omega (arith, own, first-inside .0), omega (arith, own, first-inside .1), ap (row-of e′) own ∙ row, stay .1 .0), stay .1 .1));
         once = still-once n (done ∷ map free-cell free ∷ (x ∷ xs) ∷ others) (done ∷ map free-cell free ∷ (x′ ∷ xs) ∷ others)
-        (λ f. omega (arith, sum-cell f x xs, sum-cell f x′ xs, ap f own)) (c .once);
+            (λ f. omega (arith, sum-cell f x xs, sum-cell f x′ xs, ap f own)) (c .once);
       }
 
 -- The first cell of a chain linked to the first of another: it becomes that chain's first.
@@ -162,5 +162,5 @@ shifted n clock free done h x xs ys others e c =
       start = start-stays n clock free done h x xs (ys ∷ others) e c e′ off;
       each = (stay .0, (stay .1 .0, ((inside .0, inside .1, row, stay .1 .1 .0), stay .1 .1 .1)));
       once = still-once n (done ∷ map free-cell free ∷ (x ∷ xs) ∷ ys ∷ others) (done ∷ map free-cell free ∷ xs ∷ (x ∷ ys) ∷ others)
-      (λ f. omega (arith, sum-cell f x xs, sum-cell f x ys)) (c .once);
+          (λ f. omega (arith, sum-cell f x xs, sum-cell f x ys)) (c .once);
     }

@@ -90,7 +90,15 @@ stepped : (g : Splice) (e e′ : List ℕ) (m m′ : Pair) (upper upper′ done 
     → length upper′ + length left′ < length upper + length left → Splices g e m e′ m′
 stepped g e e′ m m′ upper upper′ done done′ left left′ w w′ less = (
   record {
-    upper = upper′; done = done′; left = left′; held = w′ .held; upper-is = w′ .upper-is; head-is = w′ .head-is; prior-is = w′ .prior-is; at-is = w′ .at-is; merges = w′ .merges;
+    upper = upper′;
+    done = done′;
+    left = left′;
+    held = w′ .held;
+    upper-is = w′ .upper-is;
+    head-is = w′ .head-is;
+    prior-is = w′ .prior-is;
+    at-is = w′ .at-is;
+    merges = w′ .merges;
   },
   omega (arith, to-do-is g e m upper done left w, to-do-is g e′ m′ upper′ done′ left′ w′),
 )
@@ -146,9 +154,9 @@ module _ (g : Splice) (e : List ℕ) (m : Pair) where
         stepped g e e′ m (record { upper = next; head = first; prior = m .upper; at = m .at }) (x ∷ xs) xs done (done ++ x ∷ []) left left w
         (record {
           held = passed (g .slots) (g .clock) (g .free) done x left (xs ∷ g .others) e′
-          (subst (Held (g .slots) (g .clock) (g .free) ((done ++ x ∷ left) ∷ xs ∷ g .others)) (sym table≡) (moved (g .slots) (g .clock) (g .free) done left x xs (g .others) e (w .held)));
+              (subst (Held (g .slots) (g .clock) (g .free) ((done ++ x ∷ left) ∷ xs ∷ g .others)) (sym table≡) (moved (g .slots) (g .clock) (g .free) done left x xs (g .others) e (w .held)));
           upper-is = next≡ ∙ ap (next-of e) (w .upper-is)
-          ∙ place-next (g .slots) (g .clock) (g .free) [] x xs ((done ++ left) ∷ g .others) e (upper-first g e m (x ∷ xs) done left w);
+              ∙ place-next (g .slots) (g .clock) (g .free) [] x xs ((done ++ left) ∷ g .others) e (upper-first g e m (x ∷ xs) done left w);
           head-is = head≡ ∙ ap head (sym (over left));
           prior-is = w .upper-is ∙ sym (last-append 0 done x);
           at-is = w .at-is;

@@ -73,14 +73,29 @@ pub fn sift(e: &mut [u32], m: Cursor, goes: bool) -> Cursor
 {
     let next = next_of(e, m.at);
     if !goes {
-        return Cursor { head: m.head, prior: m.at, at: next, gone: m.gone };
+        return Cursor {
+            head: m.head,
+            prior: m.at,
+            at: next,
+            gone: m.gone,
+        };
     }
     release(e, m.at);
     if m.prior == 0 {
-        return Cursor { head: next, prior: 0, at: next, gone: m.gone + 1 };
+        return Cursor {
+            head: next,
+            prior: 0,
+            at: next,
+            gone: m.gone + 1,
+        };
     }
     set_next(e, m.prior, next);
-    Cursor { head: m.head, prior: m.prior, at: next, gone: m.gone + 1 }
+    Cursor {
+        head: m.head,
+        prior: m.prior,
+        at: next,
+        gone: m.gone + 1,
+    }
 }
 
 // The first upper cell goes before the cursor's, or the cursor passes a cell that comes before it.
@@ -92,16 +107,31 @@ fn splice_step(e: &mut [u32], m: Pair) -> Pair
     if m.at != 0 {
         if order_key(e, m.at) <= order_key(e, m.upper) {
             let next = next_of(e, m.at);
-            return Pair { upper: m.upper, head: m.head, prior: m.at, at: next };
+            return Pair {
+                upper: m.upper,
+                head: m.head,
+                prior: m.at,
+                at: next,
+            };
         }
     }
     let next = next_of(e, m.upper);
     set_next(e, m.upper, m.at);
     if m.prior == 0 {
-        return Pair { upper: next, head: m.upper, prior: m.upper, at: m.at };
+        return Pair {
+            upper: next,
+            head: m.upper,
+            prior: m.upper,
+            at: m.at,
+        };
     }
     set_next(e, m.prior, m.upper);
-    Pair { upper: next, head: m.head, prior: m.upper, at: m.at }
+    Pair {
+        upper: next,
+        head: m.head,
+        prior: m.upper,
+        at: m.at,
+    }
 }
 
 // The cells of two ascending chains as one.
@@ -109,7 +139,12 @@ pub fn splice(e: &mut [u32], upper: usize, lower: usize) -> usize
     requires { ⌜ Exists (λ g. TwoHeld g (now e) upper lower) ⌝ }
     ensures { λ r. ⌜ ((g : Chains) → TwoHeld g (now (e .entry)) upper lower → Spliced g (now (e .exit)) r) ⌝ }
 {
-    let mut m = Pair { upper: upper, head: lower, prior: 0, at: lower };
+    let mut m = Pair {
+        upper: upper,
+        head: lower,
+        prior: 0,
+        at: lower,
+    };
     while m.upper != 0 {
         m = splice_step(e, m);
     }

@@ -1,2 +1,3 @@
 -- Laws of what goes out to C.
 pub mod Stamped
+pub mod Numbers

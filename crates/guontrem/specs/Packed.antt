@@ -1,9 +1,23 @@
--- An answer as one 64-bit number: tally and stamp in its halves, or a refusal alone.
+-- Answers as one 64-bit number.
 use Prim.Native.Nat.{ℕ, _+_, _*_}
+use Rattle.model.specs.Calls as model
 use Rattle.lookup.specs.declared.Answer.{Answer}
 use Rattle.lookup.specs.declared.Answer.the-variants.{Refused, Absent, Found}
+use Rattle.calls.specs.Calls.{Tables, Called}
 
+-- A lookup's: tally and stamp in its halves, or a refusal alone.
 abbrev pub packed : Answer → ℕ
 packed (Refused n) = n
 packed Absent = 0
 packed (Found tally stamp) = tally + 4294967296 * stamp
+
+-- A timed call's: purged in the lower half, merges from bit 32, the refusal from bit 40.
+abbrev pub answer-number : model.Answer → ℕ
+answer-number r = r .purged + 4294967296 * r .merges + 1099511627776 * r .refusal
+
+pub record PackedCall : Type 0 where
+  pub tables : Tables
+  pub number : ℕ
+
+abbrev pub packed-call : Called → PackedCall
+packed-call r = record { tables = r .tables; number = answer-number (r .answer) }

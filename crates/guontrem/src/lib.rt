@@ -3,14 +3,29 @@ use lookup::Answer;
 use lookup::lookup;
 use make::make;
 use soundness::table_refusal;
+use timed::delete;
+use timed::delete_range;
+use timed::flush;
+use timed::put;
+use timed::tick;
 ghost use mathlib.Core.Path.{_≡_};
+ghost use Prim.Native.Nat.{_≤_};
 ghost use Rattle.tables.specs.Sound.{table-refusal};
 ghost use Rattle.make.specs.Make.{make-tables};
 ghost use Rattle.lookup.specs.Lookup.{lookup-tables};
-ghost use Rattle.guontrem.specs.Packed.{packed};
+ghost use Rattle.model.specs.Steps.{put, delete, delete-range};
+ghost use Rattle.model.specs.Calls.{written, flush, tick};
+ghost use Rattle.calls.specs.Calls.{call-tables};
+ghost use Rattle.timed.specs.Coded.{lent};
+ghost use Rattle.guontrem.specs.Packed.{packed, answer-number, packed-call};
 
 // Stamps stand above the tally.
 const STAMP_UNIT: u64 = 4294967296;
+
+// Merges stand above the purged records, and the refusal above the merges.
+const MERGES_UNIT: u64 = 4294967296;
+
+const REFUSAL_UNIT: u64 = 1099511627776;
 
 // The number of the refusal that the tables meet, 1 to 3, or 0 where they are sound.
 #[no_mangle]
@@ -45,4 +60,75 @@ pub extern "C" fn guontrem_lookup(entries: &[u32], levels: &[u32], docket: u32) 
         Answer::Absent => 0,
         Answer::Found(tally, stamp) => tally as u64 + STAMP_UNIT * stamp as u64,
     }
+}
+
+// The numbers of a timed call's answer in one: purged in the lower half, merges from bit 32, the refusal from bit 40.
+fn pack(refusal: u32, merges: u32, purged: u32) -> u64
+    requires { ⌜ refusal ≤ 255 ⌝ }
+    requires { ⌜ merges ≤ 255 ⌝ }
+    ensures { λ r. ⌜ r ≡ answer-number (record { refusal = refusal; merges = merges; purged = purged }) ⌝ }
+{
+    purged as u64 + MERGES_UNIT * merges as u64 + REFUSAL_UNIT * refusal as u64
+}
+
+// Puts a docket's tally.
+#[no_mangle]
+pub extern "C" fn guontrem_put(
+    entries: &mut [u32],
+    levels: &mut [u32],
+    clock: u32,
+    docket: u32,
+    tally: u32,
+) -> u64
+    ensures { λ r. ⌜ record { tables = lent (now (entries .exit)) (now (levels .exit)); number = r } ≡ packed-call (call-tables (lent (now (entries .entry)) (now (levels .entry))) (record { clock = clock; op = written (put docket tally) })) ⌝ }
+{
+    let answer = put(entries, levels, clock, docket, tally);
+    pack(answer.refusal, answer.merges, answer.purged)
+}
+
+// Deletes a docket.
+#[no_mangle]
+pub extern "C" fn guontrem_delete(
+    entries: &mut [u32],
+    levels: &mut [u32],
+    clock: u32,
+    docket: u32,
+) -> u64
+    ensures { λ r. ⌜ record { tables = lent (now (entries .exit)) (now (levels .exit)); number = r } ≡ packed-call (call-tables (lent (now (entries .entry)) (now (levels .entry))) (record { clock = clock; op = written (delete docket) })) ⌝ }
+{
+    let answer = delete(entries, levels, clock, docket);
+    pack(answer.refusal, answer.merges, answer.purged)
+}
+
+// Deletes the dockets from lo to hi.
+#[no_mangle]
+pub extern "C" fn guontrem_delete_range(
+    entries: &mut [u32],
+    levels: &mut [u32],
+    clock: u32,
+    lo: u32,
+    hi: u32,
+) -> u64
+    ensures { λ r. ⌜ record { tables = lent (now (entries .exit)) (now (levels .exit)); number = r } ≡ packed-call (call-tables (lent (now (entries .entry)) (now (levels .entry))) (record { clock = clock; op = written (delete-range lo hi) })) ⌝ }
+{
+    let answer = delete_range(entries, levels, clock, lo, hi);
+    pack(answer.refusal, answer.merges, answer.purged)
+}
+
+// Merges the buffer, full or not, and does the pass.
+#[no_mangle]
+pub extern "C" fn guontrem_flush(entries: &mut [u32], levels: &mut [u32], clock: u32) -> u64
+    ensures { λ r. ⌜ record { tables = lent (now (entries .exit)) (now (levels .exit)); number = r } ≡ packed-call (call-tables (lent (now (entries .entry)) (now (levels .entry))) (record { clock = clock; op = flush })) ⌝ }
+{
+    let answer = flush(entries, levels, clock);
+    pack(answer.refusal, answer.merges, answer.purged)
+}
+
+// Does the pass alone.
+#[no_mangle]
+pub extern "C" fn guontrem_tick(entries: &mut [u32], levels: &mut [u32], clock: u32) -> u64
+    ensures { λ r. ⌜ record { tables = lent (now (entries .exit)) (now (levels .exit)); number = r } ≡ packed-call (call-tables (lent (now (entries .entry)) (now (levels .entry))) (record { clock = clock; op = tick })) ⌝ }
+{
+    let answer = tick(entries, levels, clock);
+    pack(answer.refusal, answer.merges, answer.purged)
 }

@@ -40,7 +40,12 @@ fn settle(e: &mut [u32], level: Level) -> Level
 {
     let puts = sieve(e, level.points, Doomed::Deletes);
     let ranges = sieve(e, level.ranges, Doomed::All);
-    Level { points: puts.head, ranges: 0, held: level.held - puts.gone - ranges.gone, owed: 0 }
+    Level {
+        points: puts.head,
+        ranges: 0,
+        held: level.held - puts.gone - ranges.gone,
+        owed: 0,
+    }
 }
 
 // The upper level merged into the lower.
@@ -53,7 +58,12 @@ fn merge(e: &mut [u32], upper: Level, lower: Level) -> Level
     let united = unite(e, upper.ranges, lower.ranges);
     let ranges = splice(e, upper.ranges, united.head);
     let held = upper.held + lower.held - struck.gone - united.gone;
-    Level { points: points, ranges: ranges, held: held, owed: earlier(upper.owed, lower.owed) }
+    Level {
+        points: points,
+        ranges: ranges,
+        held: held,
+        owed: earlier(upper.owed, lower.owed),
+    }
 }
 
 // The merge of two levels; at the deepest level the deletes are then wiped.

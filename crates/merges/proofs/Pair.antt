@@ -96,10 +96,16 @@ module _ (g : Store) (e l : List ℕ) (laid : Laid g e l) (i : ℕ) (deep : i < 
             first = laid .entries .first;
             each = (
               laid .entries .each .0,
-              (points-out (g .slots) e (p .levels) (suc i) chains,
-              (points-out (g .slots) e (p .levels) i chains,
-              (ranges-out (g .slots) e (p .levels) i chains,
-              (ranges-out (g .slots) e (p .levels) (suc i) chains, pair-out (g .slots) e (p .levels) i chains)))),
+              (
+                points-out (g .slots) e (p .levels) (suc i) chains,
+                (
+                  points-out (g .slots) e (p .levels) i chains,
+                  (
+                    ranges-out (g .slots) e (p .levels) i chains,
+                    (ranges-out (g .slots) e (p .levels) (suc i) chains, pair-out (g .slots) e (p .levels) i chains),
+                  ),
+                ),
+              ),
             );
           };
           once = still-once (g .slots) (all-chains p) (pair-chains g i) (same-pair-slots g i) (formed-once (g .slots) (timed (g .time) p) (laid .formed));

@@ -16,7 +16,12 @@ pub fn level_at(l: &[u32], i: usize) -> Level
     ensures { λ r. ⌜ r ≡ level-at (now (l .entry)) i ⌝ }
 {
     let row = 4 * (i + 1);
-    Level { points: l[row] as usize, ranges: l[row + 1] as usize, held: l[row + 2] as usize, owed: l[row + 3] }
+    Level {
+        points: l[row] as usize,
+        ranges: l[row + 1] as usize,
+        held: l[row + 2] as usize,
+        owed: l[row + 3],
+    }
 }
 
 // Level i merged into the next; how many merges that counts: 1 where level i had a record.
@@ -30,7 +35,14 @@ pub fn merge_level(e: &mut [u32], l: &mut [u32], i: usize) -> u32
     let deepest = i + 1 == l[0] as usize;
     let joined = join(e, upper, lower, deepest);
     set_row(l, i + 1, 0, 0, 0, 0);
-    set_row(l, i + 2, joined.points as u32, joined.ranges as u32, joined.held as u32, joined.owed);
+    set_row(
+        l,
+        i + 2,
+        joined.points as u32,
+        joined.ranges as u32,
+        joined.held as u32,
+        joined.owed,
+    );
     if upper.held == 0 {
         return 0;
     }

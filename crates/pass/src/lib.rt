@@ -17,7 +17,12 @@ fn settings_of(l: &[u32]) -> Settings
     requires { ⌜ 4 ≤ length (now l) ⌝ }
     ensures { λ r. ⌜ r ≡ settings-of (now (l .entry)) ⌝ }
 {
-    Settings { deepest: l[0], ratio: l[1], buffer: l[2], term: l[3] }
+    Settings {
+        deepest: l[0],
+        ratio: l[1],
+        buffer: l[2],
+        term: l[3],
+    }
 }
 
 // Whether level i has more than its capacity, or has owed for its limit.

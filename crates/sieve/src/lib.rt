@@ -70,7 +70,12 @@ pub fn sieve(e: &mut [u32], first: usize, which: Doomed) -> Cursor
     requires { ⌜ Exists (λ g. OneHeld g (now e) first) ⌝ }
     ensures { λ m. ⌜ ((g : Chain) → OneHeld g (now (e .entry)) first → Sifted (doomed which) g (now (e .exit)) m) ⌝ }
 {
-    let mut m = Cursor { head: first, prior: 0, at: first, gone: 0 };
+    let mut m = Cursor {
+        head: first,
+        prior: 0,
+        at: first,
+        gone: 0,
+    };
     while m.at != 0 {
         let goes = is_doomed(e, m.at, which);
         m = sift(e, m, goes);

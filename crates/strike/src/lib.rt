@@ -27,10 +27,18 @@ fn strike_step(e: &mut [u32], m: Progress) -> Progress
     let points = skip(e, m.points, key);
     let ranges = skip(e, m.ranges, key);
     if is_covered(e, points, key) {
-        return Progress { points: points, ranges: ranges, cursor: sift(e, m.cursor, true) };
+        return Progress {
+            points: points,
+            ranges: ranges,
+            cursor: sift(e, m.cursor, true),
+        };
     }
     let goes = is_covered(e, ranges, key);
-    Progress { points: points, ranges: ranges, cursor: sift(e, m.cursor, goes) }
+    Progress {
+        points: points,
+        ranges: ranges,
+        cursor: sift(e, m.cursor, goes),
+    }
 }
 
 // The lower points that the upper points and ranges leave.
@@ -41,7 +49,12 @@ pub fn strike(e: &mut [u32], lower: usize, points: usize, ranges: usize) -> Curs
     let mut m = Progress {
         points: points,
         ranges: ranges,
-        cursor: Cursor { head: lower, prior: 0, at: lower, gone: 0 },
+        cursor: Cursor {
+            head: lower,
+            prior: 0,
+            at: lower,
+            gone: 0,
+        },
     };
     while m.cursor.at != 0 {
         m = strike_step(e, m);

@@ -49,7 +49,17 @@ pub fn put(entries: &mut [u32], levels: &mut [u32], clock: u32, docket: u32, tal
     if refusal != 0 {
         return refused(refusal);
     }
-    write(entries, levels, clock, Record { kind: PUT, lo: docket, hi: docket, tally: tally })
+    write(
+        entries,
+        levels,
+        clock,
+        Record {
+            kind: PUT,
+            lo: docket,
+            hi: docket,
+            tally: tally,
+        },
+    )
 }
 
 // Deletes a docket.
@@ -60,7 +70,17 @@ pub fn delete(entries: &mut [u32], levels: &mut [u32], clock: u32, docket: u32) 
     if refusal != 0 {
         return refused(refusal);
     }
-    write(entries, levels, clock, Record { kind: DELETE, lo: docket, hi: docket, tally: 0 })
+    write(
+        entries,
+        levels,
+        clock,
+        Record {
+            kind: DELETE,
+            lo: docket,
+            hi: docket,
+            tally: 0,
+        },
+    )
 }
 
 // Deletes the dockets from lo to hi.
@@ -71,7 +91,17 @@ pub fn delete_range(entries: &mut [u32], levels: &mut [u32], clock: u32, lo: u32
     if refusal != 0 {
         return refused(refusal);
     }
-    write(entries, levels, clock, Record { kind: RANGE, lo: lo, hi: hi, tally: 0 })
+    write(
+        entries,
+        levels,
+        clock,
+        Record {
+            kind: RANGE,
+            lo: lo,
+            hi: hi,
+            tally: 0,
+        },
+    )
 }
 
 // Merges the buffer, full or not, and does the pass.
@@ -103,7 +133,11 @@ pub fn tick(entries: &mut [u32], levels: &mut [u32], clock: u32) -> Answer
 fn refused(refusal: u32) -> Answer
     ensures { λ r. ⌜ answer-of r ≡ refusing refusal ⌝ }
 {
-    Answer { refusal: refusal, merges: 0, purged: 0 }
+    Answer {
+        refusal: refusal,
+        merges: 0,
+        purged: 0,
+    }
 }
 
 // The first of the refusals 1 to 5 that the call meets, or 0.
@@ -151,7 +185,11 @@ fn finish(e: &mut [u32], l: &mut [u32], clock: u32, before: u32, merges: u32) ->
 {
     let more = pass(e, l, clock);
     e[1] = clock;
-    Answer { refusal: 0, merges: merges + more, purged: before - held_all(l) }
+    Answer {
+        refusal: 0,
+        merges: merges + more,
+        purged: before - held_all(l),
+    }
 }
 
 // A write whose refusals 1 to 5 have been asked for: into the buffer, after merges where that is crowded, or onto level L where no slot is free even then.

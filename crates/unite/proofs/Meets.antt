@@ -118,9 +118,14 @@ module _ (g : Chains) (e : List ℕ) (m : Progress) (u : Uniting g e m) (a : Fir
   sees : to-see table m ≡ to-see e m
   unfolding uniting
   sees =
-      omega (arith, upper-length g table m uniting, upper-length g e m u, ap length (a .is),
-      left-length (sift-of (doubled (g .upper)) (lower-chain g upper)) table (m .cursor) sifting,
-      left-length (sift-of (doubled (g .upper)) (lower-chain g (u .upper))) e (m .cursor) (u .sifting))
+      omega (
+        arith,
+        upper-length g table m uniting,
+        upper-length g e m u,
+        ap length (a .is),
+        left-length (sift-of (doubled (g .upper)) (lower-chain g upper)) table (m .cursor) sifting,
+        left-length (sift-of (doubled (g .upper)) (lower-chain g (u .upper))) e (m .cursor) (u .sifting),
+      )
 
 module _ (g : Chains) (e e′ : List ℕ) (m : Progress) (lower : m .cursor .at ≢ 0) (upper : m .upper ≢ 0) (alike : cell-key (cell-at e (m .upper)) ≡ cell-key (cell-at e (m .cursor .at)))
     (stamped≡ : e′ ≡ stamped e (m .upper) (max (stamp-of e (m .upper)) (stamp-of e (m .cursor .at)))) (u : Uniting g e m) where

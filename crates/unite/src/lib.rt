@@ -24,19 +24,31 @@ fn unite_step(e: &mut [u32], m: Progress) -> Progress
 {
     let cursor = m.cursor;
     if m.upper == 0 {
-        return Progress { upper: m.upper, cursor: sift(e, cursor, false) };
+        return Progress {
+            upper: m.upper,
+            cursor: sift(e, cursor, false),
+        };
     }
     let upper = order_key(e, m.upper);
     let lower = order_key(e, cursor.at);
     if upper < lower {
         let next = next_of(e, m.upper);
-        return Progress { upper: next, cursor: cursor };
+        return Progress {
+            upper: next,
+            cursor: cursor,
+        };
     }
     if upper == lower {
         restamp(e, m.upper, cursor.at);
-        return Progress { upper: m.upper, cursor: sift(e, cursor, true) };
+        return Progress {
+            upper: m.upper,
+            cursor: sift(e, cursor, true),
+        };
     }
-    Progress { upper: m.upper, cursor: sift(e, cursor, false) }
+    Progress {
+        upper: m.upper,
+        cursor: sift(e, cursor, false),
+    }
 }
 
 // The lower ranges that the upper ones do not double; an upper one that doubles takes the later stamp.
@@ -44,7 +56,15 @@ pub fn unite(e: &mut [u32], upper: usize, lower: usize) -> Cursor
     requires { ⌜ Exists (λ g. RangesHeld g (now e) upper lower) ⌝ }
     ensures { λ m. ⌜ ((g : Chains) → RangesHeld g (now (e .entry)) upper lower → United g (now (e .exit)) m) ⌝ }
 {
-    let mut m = Progress { upper: upper, cursor: Cursor { head: lower, prior: 0, at: lower, gone: 0 } };
+    let mut m = Progress {
+        upper: upper,
+        cursor: Cursor {
+            head: lower,
+            prior: 0,
+            at: lower,
+            gone: 0,
+        },
+    };
     while m.cursor.at != 0 {
         m = unite_step(e, m);
     }

@@ -66,7 +66,14 @@ fn set_level(l: &mut [u32], i: usize, level: Level)
     requires { ⌜ (level .points ≤ 65535) × (level .ranges ≤ 65535) × (level .held ≤ 65535) ⌝ }
     ensures { λ _. ⌜ now (l .exit) ≡ set-row (now (l .entry)) (i + 1) (record { w0 = level .points; w1 = level .ranges; w2 = level .held; w3 = level .owed }) ⌝ }
 {
-    set_row(l, i + 1, level.points as u32, level.ranges as u32, level.held as u32, level.owed);
+    set_row(
+        l,
+        i + 1,
+        level.points as u32,
+        level.ranges as u32,
+        level.held as u32,
+        level.owed,
+    );
 }
 
 // The record in the first free slot, a chain of its own.
@@ -101,7 +108,12 @@ fn enter_point(e: &mut [u32], buffer: Level, clock: u32, w: Record) -> Level
     let slot = take(e, clock, w);
     let first = splice(e, slot, points.head);
     let owed = owed_with(w.kind, clock, buffer.owed);
-    Level { points: first, ranges: buffer.ranges, held: buffer.held - points.gone + 1, owed: owed }
+    Level {
+        points: first,
+        ranges: buffer.ranges,
+        held: buffer.held - points.gone + 1,
+        owed: owed,
+    }
 }
 
 // A range delete in the buffer: the points that it covers go, and a range of the same dockets.
@@ -115,7 +127,12 @@ fn enter_range(e: &mut [u32], buffer: Level, clock: u32, w: Record) -> Level
     let slot = take(e, clock, w);
     let first = splice(e, slot, ranges.head);
     let owed = earlier(clock, buffer.owed);
-    Level { points: points.head, ranges: first, held: buffer.held - points.gone - ranges.gone + 1, owed: owed }
+    Level {
+        points: points.head,
+        ranges: first,
+        held: buffer.held - points.gone - ranges.gone + 1,
+        owed: owed,
+    }
 }
 
 // The write enters the buffer as a level of one record merged into it.
@@ -162,6 +179,15 @@ pub fn act(e: &mut [u32], l: &mut [u32], clock: u32, w: Record) -> bool
         return overwrite(e, level.points, clock, w.lo, w.tally);
     }
     let points = sieve(e, level.points, Doomed::Points(w.lo, w.hi));
-    set_level(l, deepest, Level { points: points.head, ranges: level.ranges, held: level.held - points.gone, owed: level.owed });
+    set_level(
+        l,
+        deepest,
+        Level {
+            points: points.head,
+            ranges: level.ranges,
+            held: level.held - points.gone,
+            owed: level.owed,
+        },
+    );
     true
 }

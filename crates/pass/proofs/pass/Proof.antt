@@ -16,7 +16,7 @@ abbrev Inv-loop : tie.InvT-loop
 Inv-loop e₀ l₀ clock deepest merges₀ i₀ e l merges i =
     (length e ≡ length e₀) × (length l ≡ length l₀) × (1 ≤ i)
     × ((g : Store) (goal : Work ℕ ℕ) → g .time ≡ clock → g .state .settings .deepest ≡ deepest
-        → Reached (pass-level clock) goal g e₀ l₀ merges₀ i₀ → Reached (pass-level clock) goal g e l merges i)
+    → Reached (pass-level clock) goal g e₀ l₀ merges₀ i₀ → Reached (pass-level clock) goal g e l merges i)
 
 abbrev μ-loop : tie.MeasureT-loop
 μ-loop e₀ l₀ clock deepest merges₀ i₀ e l merges i = deepest - i
@@ -103,10 +103,10 @@ loop-again c = (
   search needs,
   omega arith,
   λ g goal now deep w₀.
-  let past = c .before .before .before .before in
-  let w = turn past .loop .inv .3 g goal now deep w₀ in
-  let high : turn past .loop .i < g .state .settings .deepest = omega (arith, c .before .before .before .before .before .before .before .loop-test .taken) in
-  reached-next (pass-counts (clock-of past)) w high (done past g goal now high w),
+      let past = c .before .before .before .before in
+      let w = turn past .loop .inv .3 g goal now deep w₀ in
+      let high : turn past .loop .i < g .state .settings .deepest = omega (arith, c .before .before .before .before .before .before .before .loop-test .taken) in
+      reached-next (pass-counts (clock-of past)) w high (done past g goal now high w),
 )
 
 same-length : tie.Need-same-length Inv-loop μ-loop

@@ -18,9 +18,10 @@ is-due-requires c κs =
     let start = c .before .before .before in
     let a = start .args in
     let g = start .pre .value in
-    let h = start .pre .has in
-    (omega (arith, laid-length g (a .e .now) (a .l .now) (h .0), h .3),
-    (laid-inner g (a .e .now) (a .l .now) (h .0) (a .i) (h .2) (h .3), omega (arith, h .1, laid-owed g (a .e .now) (a .l .now) (h .0) (a .i) (omega (arith, h .3)))))
+    let h = start .pre .has in (
+      omega (arith, laid-length g (a .e .now) (a .l .now) (h .0), h .3),
+      (laid-inner g (a .e .now) (a .l .now) (h .0) (a .i) (h .2) (h .3), omega (arith, h .1, laid-owed g (a .e .now) (a .l .now) (h .0) (a .i) (omega (arith, h .3)))),
+    )
 
 same-length : tie.Need-same-length
 same-length c = search needs

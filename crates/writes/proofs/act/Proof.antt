@@ -54,9 +54,10 @@ set-level-requires : tie.Need-set-level-requires
 set-level-requires c κs =
     let a = c .before .before .before .before .before .before .before .before .before .before .before .before .before .before .args in
     let p = c .before .before .before .before .before .before .before .before .before .before .before .before .before .before .pre .0 in
-    let row = c .before .before .before .before .before .before .before .before .before .level-at .ensures in
-    (omega (arith, laid-length (p .value) (a .e .now) (a .l .now) (p .has .0), laid-deepest (p .value) (a .e .now) (a .l .now) (p .has .0)),
-    wiped-row-fits (p .has .0) row (c .before .before .before .before .before .sieve .ensures _ (wipe-asked (p .has .0) row)))
+    let row = c .before .before .before .before .before .before .before .before .before .level-at .ensures in (
+      omega (arith, laid-length (p .value) (a .e .now) (a .l .now) (p .has .0), laid-deepest (p .value) (a .e .now) (a .l .now) (p .has .0)),
+      wiped-row-fits (p .has .0) row (c .before .before .before .before .before .sieve .ensures _ (wipe-asked (p .has .0) row)),
+    )
 
 same-length-3 : tie.Need-same-length-3
 same-length-3 c = search needs
