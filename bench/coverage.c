@@ -7,7 +7,7 @@
 #include <string.h>
 #include <time.h>
 
-enum { MOST_SLOTS = 65535, DEEPEST = 3, LEVEL_WORDS = 4 * (DEEPEST + 2), CALLS = 60000 };
+enum { MOST_SLOTS = 65535, DEEPEST = 3, LEVEL_WORDS = 4 * (DEEPEST + 2), CALLS = 20000 };
 
 static uint32_t entries[4 * (MOST_SLOTS + 1)], levels[LEVEL_WORDS];
 static uint64_t state;

@@ -9,7 +9,7 @@ use borrow.Author.Tests.{le-ltb}
 use Prim.Native.Nat.{ℕ, _≤_}
 use Rattle.settings.specs.declared.Settings.{Settings}
 use Rattle.settings.specs.Limits.{allowed}
-use Rattle.model.specs.Records.{State, fresh}
+use Rattle.model.specs.Records.{State, fresh, slotless}
 use Rattle.model.specs.Steps.{put, merge-all}
 use Rattle.model.specs.Calls.{Call, Answer, written, bad-clock, out-of-slots, run, answers}
 use Rattle.model.specs.Live as live
@@ -100,8 +100,9 @@ module _ (n : ℕ) (s : Settings) (low : 1 ≤ n) (high : n ≤ 65535) (ok : all
       ap (map (λ (r : Answer). r .refusal)) (answers-as-steps cs)
       ∙ model.refusals-as-map s ok (upto n) cs ∙ ap (λ x. map-refusals x no-rows cs) (length-upto n)
 
-  -- DEMAND 3: "had that put carried any other tally, every word of both tables would be the same".
-  pub erased-leaves-nothing : (cs : List (Call ℕ)) (i j k a v : ℕ) → Erased (fresh s (upto n)) cs i j k a
+  -- DEMAND 3: "had that put carried any other tally, every word of both tables would be the same", of which settings and list alone decide the premises.
+  pub erased-leaves-nothing : (cs : List (Call ℕ)) (i j k a v : ℕ) → Erased (slotless n s) cs i j k a
       → run-tables (made-tables n s) (retally i k v cs) ≡ run-tables (made-tables n s) cs
   erased-leaves-nothing cs i j k a v e =
-      runs (retally i k v cs) ∙ ap (words n) (model.erased-leaves-nothing s ok (upto n) cs i j k a v e) ∙ sym (runs cs)
+      runs (retally i k v cs)
+      ∙ ap (words n) (model.erased-leaves-nothing s ok (upto n) cs i j k a v (subst (λ x. Erased (slotless x s) cs i j k a) (sym (length-upto n)) e)) ∙ sym (runs cs)

@@ -6,3 +6,4 @@ pub mod Laws
 pub mod Reading
 pub mod Sieves
 pub mod Splices
+pub mod Bounds

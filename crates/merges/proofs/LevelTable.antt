@@ -39,15 +39,15 @@ merged-level i p = joined (eqb (suc i) (p .settings .deepest)) (level i p) (leve
 
 -- "All of row i becomes zero", and the row of i+1 becomes that of the merged level.
 pub merged-words : (i : ℕ) (p : State ℕ ℕ) → suc i < length (p .levels)
-    → level-words (merge-state i p) ≡ set-row (set-row (level-words p) (i + 1) no-row) (i + 2) (row-of-level (merged-level i p))
+    → level-words (merge-state i p) ≡ set-row (set-row (level-words p) (i + 1) no-row) (i + 1 + 1) (row-of-level (merged-level i p))
 unfolding merge-state level-words
 merged-words i p deep =
     let one : i + 1 ≡ suc i = omega arith in
-    let two : i + 2 ≡ suc (suc i) = omega arith in
+    let two : i + 1 + 1 ≡ suc (suc i) = omega arith in
     let first : Row = record { w0 = p .settings .deepest; w1 = p .settings .ratio; w2 = p .settings .buffer; w3 = p .settings .term } in
     let rows : List Row = map row-of-level (p .levels) in
     let v : Row = row-of-level (merged-level i p) in
-    rw (one, two)
+    rw (two, one)
     (ap (λ rs. row-words (first ∷ rs))
     (sym (set-map row-of-level (set (p .levels) i empty) (suc i) (merged-level i p)) ∙ ap (λ rs. set rs (suc i) v) (sym (set-map row-of-level (p .levels) i empty)))
     ∙ row-words-set (set (first ∷ rows) (suc i) no-row) (suc (suc i)) v (omega (arith, length-set rows i no-row, length-map (p .levels) row-of-level))

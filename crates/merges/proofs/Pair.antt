@@ -9,22 +9,21 @@ use lib.ListN.{length, getD, set, length-map}
 use borrow.Author.Tests.{eq-eqb, ne-eqb}
 use Rattle.model.specs.Records as model
 use Rattle.model.specs.Records.{State, empty, level, held}
-use Rattle.model.specs.Merge.{release, freed, joined}
+use Rattle.model.specs.Merge.{joined}
 use Rattle.model.specs.Steps.{begin, merge-state, merge-level}
 use Rattle.model.specs.Calls.{timed}
 use Rattle.tables.specs.Words.{Row, set-row}
 use Rattle.tables.specs.Placed.{Cell, free-cell, point-cell, range-cell, level-chains, all-chains, level-words}
 use Rattle.tables.specs.Formed.{Formed}
 use Rattle.tables.proofs.Cells.{AllChained}
-use Rattle.tables.proofs.Reading.{head-small}
 use Rattle.tables.proofs.Back.{formed-once}
 use Rattle.tables.proofs.FormedSteps.{merge-at, formed-at, at-formed}
 use Rattle.join.specs.declared.Level.{Level}
 use Rattle.join.specs.Joining.{level-of, Levels, LevelsHeld, Joined}
 use Rattle.merges.specs.Laid.{Store, Laid, at-state, Worked}
 use Rattle.merges.specs.Rows.{level-at}
+use Rattle.chains.proofs.Bounds.{first-head-fits, second-head-fits, two-few}
 use Rattle.chains.proofs.Frames.{SameSlots, still-once}
-use Rattle.chains.proofs.Reading.{all-counted}
 use Rattle.merges.proofs.LevelChains.{without-pair, points-out, ranges-out, pair-out, level-in, weigh-pair-out}
 use Rattle.merges.proofs.LevelTable.{no-row, merged-level, merged-words}
 use Rattle.merges.proofs.Store.{laid-length, laid-deepest, laid-allowed, laid-row, laid-formed, held-read}
@@ -64,16 +63,13 @@ module _ (deepest : Bool) (g : Levels) (e : List ℕ) (r : Level) (j : Joined de
   left = joined deepest (g .upper) (g .lower)
 
   pub points-small : r .points ≤ 65535
-  points-small = rw (j .level-is) (omega (arith, j .held .small, head-small (g .slots) e (map point-cell (left .points)) (j .held .holds .each .1 .0)))
+  points-small = rw (j .level-is) (first-head-fits (j .held))
 
   pub ranges-small : r .ranges ≤ 65535
-  ranges-small = rw (j .level-is) (omega (arith, j .held .small, head-small (g .slots) e (map range-cell (left .ranges)) (j .held .holds .each .1 .1 .0)))
+  ranges-small = rw (j .level-is) (second-head-fits (j .held))
 
   pub held-small : r .held ≤ 65535
-  held-small =
-      let chains : List (List Cell) = map free-cell (release (freed deepest (g .upper) (g .lower)) (g .free)) ∷ map point-cell (left .points) ∷ map range-cell (left .ranges) ∷ g .others in
-      rw (j .level-is)
-      (omega (arith, j .held .small, all-counted (g .slots) chains (j .held .once), length-map (left .points) point-cell, length-map (left .ranges) range-cell))
+  held-small = rw (j .level-is) (omega (arith, two-few (j .held), length-map (left .points) point-cell, length-map (left .ranges) range-cell))
 
 module _ (g : Store) (e l : List ℕ) (laid : Laid g e l) (i : ℕ) (deep : i < g .state .settings .deepest) where
   -- The rows of both levels are in the table, whose levels are few.
@@ -129,7 +125,7 @@ module _ (g : Store) (e l : List ℕ) (laid : Laid g e l) (i : ℕ) (deep : i < 
 
   -- The tables after a merge of level i hold the words of the merged state.
   merged-laid : (e′ : List ℕ) (r : Level) → Joined (eqb (suc i) (g .state .settings .deepest)) (pair g i) e′ r
-      → Laid (at-state g (merge-state i (g .state))) e′ (set-row (set-row l (i + 1) no-row) (i + 2) (row-of-read r))
+      → Laid (at-state g (merge-state i (g .state))) e′ (set-row (set-row l (i + 1) no-row) (i + 1 + 1) (row-of-read r))
   unfolding merge-state
   merged-laid e′ r j =
       let p : State ℕ ℕ = g .state in
@@ -142,14 +138,14 @@ module _ (g : Store) (e l : List ℕ) (laid : Laid g e l) (i : ℕ) (deep : i < 
           each = (cs .0, level-in (g .slots) e′ (merged-level i p) (set (p .levels) i empty) (suc i) (cs .1 .0) (cs .1 .1 .0) (cs .1 .1 .1));
         };
         levels =
-            ap (λ ws. set-row (set-row ws (i + 1) no-row) (i + 2) (row-of-read r)) (laid .levels)
-            ∙ ap (λ (x : Level). set-row (set-row (level-words p) (i + 1) no-row) (i + 2) (row-of-read x)) (j .level-is)
+            ap (λ ws. set-row (set-row ws (i + 1) no-row) (i + 1 + 1) (row-of-read r)) (laid .levels)
+            ∙ ap (λ (x : Level). set-row (set-row (level-words p) (i + 1) no-row) (i + 1 + 1) (row-of-read x)) (j .level-is)
             ∙ sym (merged-words i p (omega (arith, laid .formed .size)));
       }
 
   -- So does the code's work, when it tells the merges that the model counts.
   pub merged-worked : (e′ l′ : List ℕ) (r : Level) (merges : ℕ) → Joined (eqb (suc i) (g .state .settings .deepest)) (pair g i) e′ r
-      → l′ ≡ set-row (set-row l (i + 1) no-row) (i + 2) (row-of-read r) → merges ≡ merge-level i (begin (g .state)) .merges
+      → l′ ≡ set-row (set-row l (i + 1) no-row) (i + 1 + 1) (row-of-read r) → merges ≡ merge-level i (begin (g .state)) .merges
       → Worked g (merge-level i (begin (g .state))) e′ l′ merges
   unfolding merge-level
   merged-worked e′ l′ r merges j w m = record { laid = rw w (merged-laid e′ r j); counts = m }

@@ -3,10 +3,11 @@ use join::Level;
 use join::join;
 use rows::set_row;
 ghost use mathlib.Core.Path.{_≡_};
-ghost use Prim.Native.Nat.{_+_, _*_, _<_};
+ghost use Prim.Native.Nat.{_+_, _*_, _<_, _≤_};
 ghost use lib.ListN.{length};
 ghost use Rattle.lists.specs.All.{Exists};
 ghost use Rattle.model.specs.Steps.{begin, merge-level, merge-all};
+ghost use Rattle.tables.specs.Words.{set-row};
 ghost use Rattle.merges.specs.Laid.{Store, Laid, Worked};
 ghost use Rattle.merges.specs.Rows.{level-at};
 
@@ -24,6 +25,22 @@ pub fn level_at(l: &[u32], i: usize) -> Level
     }
 }
 
+// The row of level i becomes that of another level.
+pub fn set_level(l: &mut [u32], i: usize, level: Level)
+    requires { ⌜ 4 * (i + 1) + 3 < length (now l) ⌝ }
+    requires { ⌜ (level .points ≤ 65535) × (level .ranges ≤ 65535) × (level .held ≤ 65535) ⌝ }
+    ensures { λ _. ⌜ now (l .exit) ≡ set-row (now (l .entry)) (i + 1) (record { w0 = level .points; w1 = level .ranges; w2 = level .held; w3 = level .owed }) ⌝ }
+{
+    set_row(
+        l,
+        i + 1,
+        level.points as u32,
+        level.ranges as u32,
+        level.held as u32,
+        level.owed,
+    );
+}
+
 // Level i merged into the next; how many merges that counts: 1 where level i had a record.
 pub fn merge_level(e: &mut [u32], l: &mut [u32], i: usize) -> u32
     requires { ⌜ Exists (λ g. Laid g (now e) (now l) × (i < g .state .settings .deepest)) ⌝ }
@@ -35,14 +52,7 @@ pub fn merge_level(e: &mut [u32], l: &mut [u32], i: usize) -> u32
     let deepest = i + 1 == l[0] as usize;
     let joined = join(e, upper, lower, deepest);
     set_row(l, i + 1, 0, 0, 0, 0);
-    set_row(
-        l,
-        i + 2,
-        joined.points as u32,
-        joined.ranges as u32,
-        joined.held as u32,
-        joined.owed,
-    );
+    set_level(l, i + 1, joined);
     if upper.held == 0 {
         return 0;
     }

@@ -10,7 +10,7 @@ use lib.Dec.{eqb}
 use lib.ListN.{length, replicate}
 use Rattle.settings.specs.declared.Settings.{Settings}
 use Rattle.settings.specs.Limits.{allowed}
-use Rattle.model.specs.Records.{Level, State, empty, level, held-all, fresh}
+use Rattle.model.specs.Records.{Level, State, empty, level, held-all, fresh, slotless}
 use Rattle.model.specs.Merge.{settled}
 use Rattle.model.specs.Steps.{put, delete, delete-range, merge-all, no-slot, due, pass}
 use Rattle.model.specs.Lookup.{scan, lookup}
@@ -27,7 +27,7 @@ use Rattle.model.proofs.Deepest.{Drained, merge-all-drained}
 use Rattle.model.proofs.Full.{full-live, live-full}
 use Rattle.model.proofs.PlainMaps.{Alike, run-alike, refusals-alike, fresh-alike, merge-all-clock}
 use Rattle.model.proofs.Scans.{scan-same}
-use Rattle.model.proofs.NaturalCalls.{run-map, answers-map}
+use Rattle.model.proofs.NaturalCalls.{run-map, answers-map, erased-with-slots}
 use Rattle.model.proofs.Erasure.{erasure}
 
 -- DEMAND 1, first for every state, reachable or not.
@@ -166,10 +166,10 @@ module _ {S A : Type 0} (settings : Settings) (ok : allowed settings ≡ true) (
   pub free-and-held : length (run (fresh settings slots) cs .free) + held-all (run (fresh settings slots) cs .levels) ≡ length slots
   free-and-held = whole .all
 
-  -- DEMAND 3: "had that put carried any other tally", the state would be the same.
-  pub erased-leaves-nothing : (i j k : ℕ) (a v : A) → Erased (fresh settings slots) cs i j k a
+  -- DEMAND 3: "had that put carried any other tally", the state would be the same. What became of the delete is worked out without slots.
+  pub erased-leaves-nothing : (i j k : ℕ) (a v : A) → Erased (slotless (length slots) settings) cs i j k a
       → run (fresh settings slots) (retally i k v cs) ≡ run (fresh settings slots) cs
-  erased-leaves-nothing i j k a v e = erasure settings slots cs i j k a v ok e
+  erased-leaves-nothing i j k a v e = erasure settings slots cs i j k a v ok (erased-with-slots settings slots cs i j k a e)
 
 -- No decision hangs on a tally, nor on a slot: a change of them commutes with every list, whose answers stay.
 module _ {S T A B : Type 0} (g : S → T) (f : A → B) (s : State S A) (cs : List (Call A)) where

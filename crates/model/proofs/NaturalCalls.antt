@@ -4,10 +4,10 @@ use mathlib.Core.Bool.{cond}
 use mathlib.Core.List.{List, [], _∷_, map}
 use Prim.Native.Nat.{ℕ, zero, suc}
 use lib.Dec.{eqb}
-use lib.ListN.{take, drop, List·getD-map, replicate}
+use lib.ListN.{length, take, drop, List·getD-map, replicate}
 use Rattle.lists.proofs.Bools.{cond-ap}
 use Rattle.settings.specs.declared.Settings.{Settings}
-use Rattle.model.specs.Records.{Entry, value, tombstone, Point, Level, State, empty, fresh}
+use Rattle.model.specs.Records.{Entry, value, tombstone, Point, Level, State, empty, fresh, slotless}
 use Rattle.model.specs.Merge.{covered}
 use Rattle.model.specs.Steps.{deletes, Work, Write, put, delete, delete-range, begin, pass, merge-all, still-due}
 use Rattle.model.specs.Lookup.{Found, absent, reads, find, lookup}
@@ -173,3 +173,30 @@ module _ {S T A B : Type 0} (g : S → T) (f : A → B) where
         fate = sym (rw (← same, merged-after-map s cs j, before-map s cs j, call-at-map cs j, full-map g f (d .clock) w (before s cs j))) ∙ e .fate;
         term = rw (call-at-map cs j, run-map s cs) at (e .term);
       }
+
+-- What became of a delete does not hang on which slots are free, only on their number.
+module _ {A : Type 0} where
+  same-call : (c : Call A) → map-call (λ x. x) c ≡ c
+  same-call c = ap (λ (op : Op A). record { clock = c .clock; op = op }) (go (c .op))
+    where
+      go : (op : Op A) → map-op (λ x. x) op ≡ op
+      go (written (put k a)) = refl
+      go (written (delete k)) = refl
+      go (written (delete-range lo hi)) = refl
+      go flush = refl
+      go tick = refl
+
+  same-calls : (cs : List (Call A)) → map (map-call (λ x. x)) cs ≡ cs
+  same-calls [] = refl
+  same-calls (c ∷ cs) = rw (same-call c, same-calls cs)
+
+no-slots : {S : Type 0} (slots : List S) → map (λ (x : S). tt {0}) slots ≡ replicate (length slots) (tt {0})
+no-slots [] = refl
+no-slots (x ∷ slots) = ap (_∷_ tt) (no-slots slots)
+
+module _ {S A : Type 0} where
+  pub erased-with-slots : (settings : Settings) (slots : List S) (cs : List (Call A)) (i j k : ℕ) (a : A)
+      → Erased (slotless (length slots) settings) cs i j k a → Erased (fresh settings slots) cs i j k a
+  erased-with-slots settings slots cs i j k a e =
+      erased-map (λ (x : S). tt {0}) (λ (x : A). x) (fresh settings slots) cs i j k a (e .write) (e .is-put) (e .is-write)
+      (rw (sym (fresh-map (λ (x : S). tt {0}) (λ (x : A). x) settings slots), no-slots slots, same-calls cs) e)

@@ -5,8 +5,7 @@ use mathlib.Core.List.{List, [], _∷_, _++_}
 use Prim.Native.Nat.{ℕ, _≤_}
 use Rattle.settings.specs.declared.Settings.{Settings}
 use Rattle.settings.specs.Limits.{limit}
-use lib.ListN.{replicate}
-use Rattle.model.specs.Records.{State, fresh}
+use Rattle.model.specs.Records.{State, slotless}
 use Rattle.model.specs.Steps.{put, delete, delete-range}
 use Rattle.model.specs.Lookup.{absent, found, scan, lookup}
 use Rattle.model.specs.Calls.{written, flush, tick, Call, Answer, refusing, step, run, answers}
@@ -16,7 +15,7 @@ settings l t b d = record { deepest = l; ratio = t; buffer = b; term = d }
 
 -- "N less all records as the free slots": N of them, and it does not matter which.
 abbrev pub store : ℕ → Settings → State (Unit {0}) ℕ
-store n s = fresh s (replicate n tt)
+store n s = slotless n s
 
 abbrev pub accepts : ℕ → ℕ → Answer
 accepts m p = record { refusal = 0; merges = m; purged = p }

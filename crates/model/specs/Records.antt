@@ -67,3 +67,8 @@ module _ {S A : Type 0} where
   unfoldable pub fresh : Settings → List S → State S A
   fresh settings slots =
       record { settings = settings; clock = 0; free = slots; levels = replicate (suc (settings .deepest)) empty }
+
+module _ {A : Type 0} where
+  -- The same without saying which slots: "N less all records as the free slots".
+  abbrev pub slotless : ℕ → Settings → State (Unit {0}) A
+  slotless n settings = fresh settings (replicate n tt)

@@ -94,9 +94,9 @@ module _ (e l : List ℕ) (t lo hi r : ℕ) (tables : r ≡ table-refusal e l) w
           pub not-refused : clock-of e ≤ t → 0 ≡ call-refusal e l t lo hi
           not-refused h = rw (zero-tables, le-ltb 65535 hi d, le-ltb hi lo x, ne-eqb t 0 n, le-ltb t (clock-of e) h)
 
--- Sound tables have a clock to read.
-pub sound-clock : (e l : List ℕ) → table-refusal e l ≡ 0 → 1 < length e
-sound-clock e l h = let f = sound-facts e l h in omega (arith, f .length-entries, f .few)
+-- Sound tables have a slot 0.
+pub sound-slot-zero : (e l : List ℕ) → table-refusal e l ≡ 0 → 3 < length e
+sound-slot-zero e l h = let f = sound-facts e l h in omega (arith, f .length-entries, f .few)
 
 module _ (e l : List ℕ) (t lo hi : ℕ) (op : Op ℕ) (fits : Fits32 e) (dockets : bad-docket op ≡ ltb 65535 hi || ltb hi lo) where
   abbrev call : Call ℕ

@@ -45,8 +45,8 @@ module _ (g : Store) (e l : List ℕ) (w : Laid g e l) where
     few = omega (arith, formed-whole (g .slots) (timed (g .time) (g .state)) (w .formed) .all, w .formed .many);
   }
 
-  pub has-clock : 1 < length e
-  has-clock = omega (arith, w .entries .room, w .formed .few)
+  pub slot-zero : 3 < length e
+  slot-zero = omega (arith, w .entries .room, w .formed .few)
 
   -- The words with the clock set.
   clock-other : (t s : ℕ) → s ≢ 0 → row-of (set e 1 t) s ≡ row-of e s
@@ -59,7 +59,7 @@ module _ (g : Store) (e l : List ℕ) (w : Laid g e l) where
 
   clock-first : (t : ℕ) → row-of (set e 1 t) 0 ≡ record { w0 = row-of e 0 .w0; w1 = t; w2 = row-of e 0 .w2; w3 = row-of e 0 .w3 }
   clock-first t =
-      let long : 1 < length e = has-clock in
+      let long : 1 < length e = omega (arith, slot-zero) in
       let n0 : 4 * 0 ≢ 1 = omega arith in
       let n2 : 4 * 0 + 2 ≢ 1 = omega arith in
       let n3 : 4 * 0 + 3 ≢ 1 = omega arith in

@@ -23,7 +23,7 @@ use Rattle.join.proofs.Ranges.{Spanned, ranges-merge}
 use Rattle.writes.specs.Records.{record-of, record-cell}
 use Rattle.writes.specs.Entering.{Entry, EntryHeld, Entered}
 use Rattle.writes.specs.declared.Record.{Record}
-use Rattle.writes.proofs.Bounds.{two-few}
+use Rattle.chains.proofs.Bounds.{two-few}
 use Rattle.writes.proofs.Singles.{single-no-range, single-no-point, single-point-cell, single-range-cell, single-keyed, single-spanned}
 use Rattle.writes.proofs.SingleMerges.{merged-no-range, no-range-gone, entered-points, entered-ranges, entered-held, entered-owed}
 use Rattle.writes.proofs.Entries.{room, to-splice, gone-points, kept-points, gone-ranges, kept-ranges}

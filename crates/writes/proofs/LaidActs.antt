@@ -35,7 +35,7 @@ use Rattle.merges.proofs.Store.{laid-deepest, laid-formed}
 use Rattle.writes.specs.Records.{record-of}
 use Rattle.writes.specs.Acting.{Points, PointsHeld, Overwritten, can-act, Acted}
 use Rattle.writes.specs.declared.Record.{Record}
-use Rattle.writes.proofs.Bounds.{first-head-fits, second-head-fits, two-few}
+use Rattle.chains.proofs.Bounds.{first-head-fits, second-head-fits, two-few}
 use Rattle.writes.proofs.OneLevel.{words-set, words-stay, level-out, level-back, points-of, row-is, points-asked}
 use Rattle.writes.proofs.Dooms.{points-gone, points-left}
 use Rattle.writes.proofs.Named.{written-over, untouched}

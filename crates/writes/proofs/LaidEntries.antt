@@ -23,7 +23,7 @@ use Rattle.merges.proofs.Pair.{read-level, row-of-read}
 use Rattle.writes.specs.Records.{record-of}
 use Rattle.writes.specs.Entering.{Entry, EntryHeld, Entered, Entering}
 use Rattle.writes.specs.declared.Record.{Record}
-use Rattle.writes.proofs.Bounds.{first-head-fits, second-head-fits, two-few}
+use Rattle.chains.proofs.Bounds.{first-head-fits, second-head-fits, two-few}
 use Rattle.writes.proofs.OneLevel.{words-set, level-out, level-back}
 
 -- The buffer of a store, a write, and the chains of the other levels.

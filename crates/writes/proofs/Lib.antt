@@ -4,7 +4,6 @@ pub mod SingleMerges
 pub mod Dooms
 pub mod Takes
 pub mod Entries
-pub mod Bounds
 pub mod Entered
 pub mod Named
 pub mod Overwrites

@@ -76,34 +76,26 @@ add-set-row c = omega (arith, few (c .before .before .before .before .before .be
 set-row-requires : tie.Need-set-row-requires
 set-row-requires c κs = omega (arith, in-table (c .before .before .before .before .before .before .before .before .before .before .before .before))
 
-add-set-row-2 : tie.Need-add-set-row-2
-add-set-row-2 c = omega (arith, few (c .before .before .before .before .before .before .before .before .before .before .before .before .before .before .before .before))
+add-set-level : tie.Need-add-set-level
+add-set-level c = omega (arith, few (c .before .before .before .before .before .before .before .before .before .before .before .before .before .before .before .before))
 
-cast-set-row : tie.Need-cast-set-row
-cast-set-row c = omega (arith, small (c .before .before .before .before .before .before .before .before) .0)
+set-level-requires : tie.Need-set-level-requires
+set-level-requires c κs =
+    let joined = c .before .before .before .before .before .before .before in
+    (omega (arith, in-table (entry (joined .before)), simp length-set-row at (ap length (c .before .before .before .set-row .ensures))), small joined)
 
-cast-set-row-2 : tie.Need-cast-set-row-2
-cast-set-row-2 c = omega (arith, small (c .before .before .before .before .before .before .before .before .before) .1)
-
-cast-set-row-3 : tie.Need-cast-set-row-3
-cast-set-row-3 c = omega (arith, small (c .before .before .before .before .before .before .before .before .before .before) .2)
-
-set-row-requires-2 : tie.Need-set-row-requires-2
-set-row-requires-2 c κs =
-    omega (arith, in-table (entry (c .before .before .before .before .before .before .before .before .before .before .before)), simp length-set-row at (ap length (c .before .before .before .before .before .before .set-row .ensures)))
-
-abbrev joining : tie.After-set-row2 → tie.After-join
-joining c = c .before .before .before .before .before .before .before .before .before .before .before
+abbrev joining : tie.After-set-level → tie.After-join
+joining c = c .before .before .before .before .before .before .before .before
 
 -- Both rows are written: the tables hold the merged state, whatever number of merges is then told.
-worked : (c : tie.After-set-row2) (g : Store) → AtEntry (entry (joining c .before)) g
+worked : (c : tie.After-set-level) (g : Store) → AtEntry (entry (joining c .before)) g
     → (merges : ℕ) → merges ≡ merge-level (entry (joining c .before) .args .i) (begin (g .state)) .merges
-    → Worked g (merge-level (entry (joining c .before) .args .i) (begin (g .state))) (joining c .join .last .0) (c .set-row2 .last .0) merges
+    → Worked g (merge-level (entry (joining c .before) .args .i) (begin (g .state))) (joining c .join .last .0) (c .set-level .last .0) merges
 worked c g h merges counts =
     let a = entry (joining c .before) .args in
     let j = joining c .join in
-    merged-worked g (a .e .now) (a .l .now) (h .0) (a .i) (h .1) (j .last .0) (c .set-row2 .last .0) (j .result) merges (pair-joined (joining c) g h)
-    (rw (c .before .before .before .before .before .before .before .set-row .ensures) at (c .set-row2 .ensures)) counts
+    merged-worked g (a .e .now) (a .l .now) (h .0) (a .i) (h .1) (j .last .0) (c .set-level .last .0) (j .result) merges (pair-joined (joining c) g h)
+    (rw (c .before .before .before .before .set-row .ensures) at (c .set-level .ensures)) counts
 
 same-length : tie.Need-same-length
 same-length c = search needs
@@ -113,8 +105,8 @@ same-length-2 c = search needs
 
 returns : tie.Need-returns
 returns c = λ g laid deep.
-    let a = c .before .before .before .before .before .before .before .before .before .before .before .before .before .before .before .before .before .before .before .before .before .before .before .before .args in
-    let upper = c .before .before .before .before .before .before .before .before .before .before .before .before .before .before .before .before .before .before .before .before .level-at in
+    let a = c .before .before .before .before .before .before .before .before .before .before .before .before .before .before .before .before .before .before .before .before .before .args in
+    let upper = c .before .before .before .before .before .before .before .before .before .before .before .before .before .before .before .before .before .level-at in
     worked (c .before .before .before .before) g (laid, deep) 0 (counts-none g (a .e .now) (a .l .now) laid (a .i) deep (upper .result) (upper .ensures) (c .if1 .taken))
 
 same-length-3 : tie.Need-same-length-3
@@ -125,8 +117,8 @@ same-length-4 c = search needs
 
 returns-2 : tie.Need-returns-2
 returns-2 c = λ g laid deep.
-    let a = c .before .before .before .before .before .before .before .before .before .before .before .before .before .before .before .before .before .before .before .before .before .before .before .before .args in
-    let upper = c .before .before .before .before .before .before .before .before .before .before .before .before .before .before .before .before .before .before .before .before .level-at in
+    let a = c .before .before .before .before .before .before .before .before .before .before .before .before .before .before .before .before .before .before .before .before .before .args in
+    let upper = c .before .before .before .before .before .before .before .before .before .before .before .before .before .before .before .before .before .level-at in
     worked (c .before .before .before .before) g (laid, deep) 1 (counts-one g (a .e .now) (a .l .now) laid (a .i) deep (upper .result) (upper .ensures) (c .if1 .left))
 
 pub merge-level-spec : {M : Type 1} → statement M
@@ -142,11 +134,8 @@ merge-level-spec =
     join-requires
     add-set-row
     set-row-requires
-    add-set-row-2
-    cast-set-row
-    cast-set-row-2
-    cast-set-row-3
-    set-row-requires-2
+    add-set-level
+    set-level-requires
     same-length
     same-length-2
     returns

@@ -6,7 +6,7 @@ use Rattle.lists.proofs.Branches.{fails, holds}
 use Rattle.model.specs.Calls.{written}
 use Rattle.timed.proofs.Begun.{begun-low, begun-laid}
 use Rattle.timed.proofs.Preparing.{enters, enters-room}
-use Rattle.timed.proofs.Laying.{laid-rows, has-clock}
+use Rattle.timed.proofs.Laying.{laid-rows, slot-zero}
 use Rattle.timed.proofs.Writing.{pass-next, passed, entering, merges-few, entering-after, after-room, entered-after, acted, refused-7}
 use Rattle.timed.proofs.write.Statement.{statement}
 use Rattle.timed.proofs.write.Tie as tie
@@ -60,7 +60,7 @@ slice-read-if2 : tie.Need-slice-read-if2
 slice-read-if2 c =
     let x = c .before .before .before .before .before .before .before .before .before .before .before .before .before .before .before .before .pre in let v = x .value in let b = x .has .0 in let is = x .has .1 in let w = begun-laid _ _ _ (written v) b in
     let d = c .before .before .before .before .before .merge-all .ensures _ w in
-    omega (arith, has-clock _ _ _ (d .laid))
+    omega (arith, slot-zero _ _ _ (d .laid))
 
 enter-requires-2 : tie.Need-enter-requires-2
 enter-requires-2 c κs =
