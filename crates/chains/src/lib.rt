@@ -33,38 +33,6 @@ struct Pair {
     at: usize,
 }
 
-// The slot's next becomes another.
-fn set_next(e: &mut [u32], slot: usize, next: usize)
-    requires { ⌜ 4 * slot + 3 < length (now e) ⌝ }
-    requires { ⌜ next < 65536 ⌝ }
-    ensures { λ _. ⌜ now (e .exit) ≡ linked (now (e .entry)) slot next ⌝ }
-{
-    e[4 * slot] = e[4 * slot] / BASE * BASE + next as u32;
-}
-
-// A slot wiped, so that nothing of its record is left, and made the first of the free ones.
-fn release(e: &mut [u32], slot: usize)
-    requires { ⌜ 4 * slot + 3 < length (now e) ⌝ }
-    requires { ⌜ slot < 65536 ⌝ }
-    ensures { λ _. ⌜ now (e .exit) ≡ released (now (e .entry)) slot ⌝ }
-{
-    let first = e[0];
-    set_row(e, slot, first, 0, 0, 0);
-    e[0] = slot as u32;
-}
-
-// The slot's stamp becomes the later of its own and another's.
-pub fn restamp(e: &mut [u32], slot: usize, other: usize)
-    requires { ⌜ 4 * slot + 3 < length (now e) ⌝ }
-    requires { ⌜ 4 * other + 3 < length (now e) ⌝ }
-    ensures { λ _. ⌜ now (e .exit) ≡ stamped (now (e .entry)) slot (max (stamp-of (now (e .entry)) slot) (stamp-of (now (e .entry)) other)) ⌝ }
-{
-    let stamp = stamp_of(e, other);
-    if e[4 * slot + 3] < stamp {
-        e[4 * slot + 3] = stamp;
-    }
-}
-
 // The cell at the cursor goes, or stays and is passed.
 pub fn sift(e: &mut [u32], m: Cursor, goes: bool) -> Cursor
     requires { ⌜ Exists (λ g. Sifting g (now e) m) ⌝ }
@@ -95,6 +63,35 @@ pub fn sift(e: &mut [u32], m: Cursor, goes: bool) -> Cursor
         prior: m.prior,
         at: next,
         gone: m.gone + 1,
+    }
+}
+
+// The cells of two ascending chains as one.
+pub fn splice(e: &mut [u32], upper: usize, lower: usize) -> usize
+    requires { ⌜ Exists (λ g. TwoHeld g (now e) upper lower) ⌝ }
+    ensures { λ r. ⌜ ((g : Chains) → TwoHeld g (now (e .entry)) upper lower → Spliced g (now (e .exit)) r) ⌝ }
+{
+    let mut m = Pair {
+        upper: upper,
+        head: lower,
+        prior: 0,
+        at: lower,
+    };
+    while m.upper != 0 {
+        m = splice_step(e, m);
+    }
+    m.head
+}
+
+// The slot's stamp becomes the later of its own and another's.
+pub fn restamp(e: &mut [u32], slot: usize, other: usize)
+    requires { ⌜ 4 * slot + 3 < length (now e) ⌝ }
+    requires { ⌜ 4 * other + 3 < length (now e) ⌝ }
+    ensures { λ _. ⌜ now (e .exit) ≡ stamped (now (e .entry)) slot (max (stamp-of (now (e .entry)) slot) (stamp-of (now (e .entry)) other)) ⌝ }
+{
+    let stamp = stamp_of(e, other);
+    if e[4 * slot + 3] < stamp {
+        e[4 * slot + 3] = stamp;
     }
 }
 
@@ -134,19 +131,22 @@ fn splice_step(e: &mut [u32], m: Pair) -> Pair
     }
 }
 
-// The cells of two ascending chains as one.
-pub fn splice(e: &mut [u32], upper: usize, lower: usize) -> usize
-    requires { ⌜ Exists (λ g. TwoHeld g (now e) upper lower) ⌝ }
-    ensures { λ r. ⌜ ((g : Chains) → TwoHeld g (now (e .entry)) upper lower → Spliced g (now (e .exit)) r) ⌝ }
+// The slot's next becomes another.
+fn set_next(e: &mut [u32], slot: usize, next: usize)
+    requires { ⌜ 4 * slot + 3 < length (now e) ⌝ }
+    requires { ⌜ next < 65536 ⌝ }
+    ensures { λ _. ⌜ now (e .exit) ≡ linked (now (e .entry)) slot next ⌝ }
 {
-    let mut m = Pair {
-        upper: upper,
-        head: lower,
-        prior: 0,
-        at: lower,
-    };
-    while m.upper != 0 {
-        m = splice_step(e, m);
-    }
-    m.head
+    e[4 * slot] = e[4 * slot] / BASE * BASE + next as u32;
+}
+
+// A slot wiped, so that nothing of its record is left, and made the first of the free ones.
+fn release(e: &mut [u32], slot: usize)
+    requires { ⌜ 4 * slot + 3 < length (now e) ⌝ }
+    requires { ⌜ slot < 65536 ⌝ }
+    ensures { λ _. ⌜ now (e .exit) ≡ released (now (e .entry)) slot ⌝ }
+{
+    let first = e[0];
+    set_row(e, slot, first, 0, 0, 0);
+    e[0] = slot as u32;
 }

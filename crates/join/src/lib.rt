@@ -17,6 +17,18 @@ pub struct Level {
     pub owed: u32,
 }
 
+// The merge of two levels; at the deepest level the deletes are then wiped.
+pub fn join(e: &mut [u32], upper: Level, lower: Level, deepest: bool) -> Level
+    requires { ⌜ Exists (λ g. LevelsHeld g (now e) upper lower) ⌝ }
+    ensures { λ r. ⌜ ((g : Levels) → LevelsHeld g (now (e .entry)) upper lower → Joined deepest g (now (e .exit)) r) ⌝ }
+{
+    let merged = merge(e, upper, lower);
+    if !deepest {
+        return merged;
+    }
+    settle(e, merged)
+}
+
 // Owed becomes the earlier one that is not zero.
 pub fn earlier(a: u32, b: u32) -> u32
     ensures { λ r. ⌜ r ≡ earlier a b ⌝ }
@@ -31,21 +43,6 @@ pub fn earlier(a: u32, b: u32) -> u32
         return b;
     }
     a
-}
-
-// The deletes wiped, after they have wiped what they cover.
-fn settle(e: &mut [u32], level: Level) -> Level
-    requires { ⌜ Exists (λ g. MergedHeld g (now e) level) ⌝ }
-    ensures { λ r. ⌜ ((g : Merged) → MergedHeld g (now (e .entry)) level → Settled g (now (e .exit)) r) ⌝ }
-{
-    let puts = sieve(e, level.points, Doomed::Deletes);
-    let ranges = sieve(e, level.ranges, Doomed::All);
-    Level {
-        points: puts.head,
-        ranges: 0,
-        held: level.held - puts.gone - ranges.gone,
-        owed: 0,
-    }
 }
 
 // The upper level merged into the lower.
@@ -66,14 +63,17 @@ fn merge(e: &mut [u32], upper: Level, lower: Level) -> Level
     }
 }
 
-// The merge of two levels; at the deepest level the deletes are then wiped.
-pub fn join(e: &mut [u32], upper: Level, lower: Level, deepest: bool) -> Level
-    requires { ⌜ Exists (λ g. LevelsHeld g (now e) upper lower) ⌝ }
-    ensures { λ r. ⌜ ((g : Levels) → LevelsHeld g (now (e .entry)) upper lower → Joined deepest g (now (e .exit)) r) ⌝ }
+// The deletes wiped, after they have wiped what they cover.
+fn settle(e: &mut [u32], level: Level) -> Level
+    requires { ⌜ Exists (λ g. MergedHeld g (now e) level) ⌝ }
+    ensures { λ r. ⌜ ((g : Merged) → MergedHeld g (now (e .entry)) level → Settled g (now (e .exit)) r) ⌝ }
 {
-    let merged = merge(e, upper, lower);
-    if !deepest {
-        return merged;
+    let puts = sieve(e, level.points, Doomed::Deletes);
+    let ranges = sieve(e, level.ranges, Doomed::All);
+    Level {
+        points: puts.head,
+        ranges: 0,
+        held: level.held - puts.gone - ranges.gone,
+        owed: 0,
     }
-    settle(e, merged)
 }

@@ -13,34 +13,19 @@ ghost use Rattle.tables.specs.Words.{settings-of, level-row};
 ghost use Rattle.merges.specs.Laid.{Store, Laid, Worked};
 ghost use Rattle.pass.specs.Due.{due-row};
 
-fn settings_of(l: &[u32]) -> Settings
-    requires { ⌜ 4 ≤ length (now l) ⌝ }
-    ensures { λ r. ⌜ r ≡ settings-of (now (l .entry)) ⌝ }
+// The whole pass; how many merges it counts.
+pub fn pass(e: &mut [u32], l: &mut [u32], clock: u32) -> u32
+    requires { ⌜ Exists (λ g. Laid g (now e) (now l) × (g .time ≡ clock)) ⌝ }
+    ensures { λ r. ⌜ ((g : Store) → Laid g (now (e .entry)) (now (l .entry)) → g .time ≡ clock → Worked g (pass clock (begin (g .state))) (now (e .exit)) (now (l .exit)) r) ⌝ }
 {
-    Settings {
-        deepest: l[0],
-        ratio: l[1],
-        buffer: l[2],
-        term: l[3],
+    let deepest = l[0] as usize;
+    let mut merges = pass_buffer(e, l);
+    let mut i = 1;
+    while i < deepest {
+        merges += pass_level(e, l, clock, i);
+        i += 1;
     }
-}
-
-// Whether level i has more than its capacity, or has owed for its limit.
-fn is_due(l: &[u32], clock: u32, i: usize) -> bool
-    requires { ⌜ 4 * (i + 1) + 3 < length (now l) ⌝ }
-    requires { ⌜ inner (settings-of (now l)) i ≡ true ⌝ }
-    requires { ⌜ level-row (now l) i .w3 ≤ clock ⌝ }
-    ensures { λ r. ⌜ r ≡ due-row (settings-of (now (l .entry))) clock i (level-row (now (l .entry)) i) ⌝ }
-{
-    let settings = settings_of(l);
-    let level = level_at(l, i);
-    if settings.inner_capacity(i as u32) < level.held as u64 {
-        return true;
-    }
-    if level.owed == 0 {
-        return false;
-    }
-    settings.inner_limit(i as u32) <= (clock - level.owed) as u64
+    merges
 }
 
 // The buffer merged if it has B records or more.
@@ -67,17 +52,32 @@ fn pass_level(e: &mut [u32], l: &mut [u32], clock: u32, i: usize) -> u32
     merge_level(e, l, i)
 }
 
-// The whole pass; how many merges it counts.
-pub fn pass(e: &mut [u32], l: &mut [u32], clock: u32) -> u32
-    requires { ⌜ Exists (λ g. Laid g (now e) (now l) × (g .time ≡ clock)) ⌝ }
-    ensures { λ r. ⌜ ((g : Store) → Laid g (now (e .entry)) (now (l .entry)) → g .time ≡ clock → Worked g (pass clock (begin (g .state))) (now (e .exit)) (now (l .exit)) r) ⌝ }
+// Whether level i has more than its capacity, or has owed for its limit.
+fn is_due(l: &[u32], clock: u32, i: usize) -> bool
+    requires { ⌜ 4 * (i + 1) + 3 < length (now l) ⌝ }
+    requires { ⌜ inner (settings-of (now l)) i ≡ true ⌝ }
+    requires { ⌜ level-row (now l) i .w3 ≤ clock ⌝ }
+    ensures { λ r. ⌜ r ≡ due-row (settings-of (now (l .entry))) clock i (level-row (now (l .entry)) i) ⌝ }
 {
-    let deepest = l[0] as usize;
-    let mut merges = pass_buffer(e, l);
-    let mut i = 1;
-    while i < deepest {
-        merges += pass_level(e, l, clock, i);
-        i += 1;
+    let settings = settings_of(l);
+    let level = level_at(l, i);
+    if settings.inner_capacity(i as u32) < level.held as u64 {
+        return true;
     }
-    merges
+    if level.owed == 0 {
+        return false;
+    }
+    settings.inner_limit(i as u32) <= (clock - level.owed) as u64
+}
+
+fn settings_of(l: &[u32]) -> Settings
+    requires { ⌜ 4 ≤ length (now l) ⌝ }
+    ensures { λ r. ⌜ r ≡ settings-of (now (l .entry)) ⌝ }
+{
+    Settings {
+        deepest: l[0],
+        ratio: l[1],
+        buffer: l[2],
+        term: l[3],
+    }
 }

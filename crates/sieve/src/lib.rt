@@ -26,6 +26,39 @@ pub enum Doomed {
     Range(u32, u32),
 }
 
+// The chain from first without the cells that go.
+pub fn sieve(e: &mut [u32], first: usize, which: Doomed) -> Cursor
+    requires { ⌜ Exists (λ g. OneHeld g (now e) first) ⌝ }
+    ensures { λ m. ⌜ ((g : Chain) → OneHeld g (now (e .entry)) first → Sifted (doomed which) g (now (e .exit)) m) ⌝ }
+{
+    let mut m = Cursor {
+        head: first,
+        prior: 0,
+        at: first,
+        gone: 0,
+    };
+    while m.at != 0 {
+        let goes = is_doomed(e, m.at, which);
+        m = sift(e, m, goes);
+    }
+    m
+}
+
+// The first slot of a cell that would go, or 0.
+pub fn first_doomed(e: &[u32], first: usize, which: Doomed) -> usize
+    requires { ⌜ Exists (λ g. OneHeld g (now e) first) ⌝ }
+    ensures { λ r. ⌜ ((g : Chain) → OneHeld g (now (e .entry)) first → r ≡ head (select (doomed which) (g .cells))) ⌝ }
+{
+    let mut at = first;
+    while at != 0 {
+        if is_doomed(e, at, which) {
+            return at;
+        }
+        at = next_of(e, at);
+    }
+    0
+}
+
 // Whether the cell at a slot goes.
 fn is_doomed(e: &[u32], slot: usize, which: Doomed) -> bool
     requires { ⌜ 4 * slot + 3 < length (now e) ⌝ }
@@ -48,37 +81,4 @@ fn is_doomed(e: &[u32], slot: usize, which: Doomed) -> bool
             hi_of(e, slot) == hi
         },
     }
-}
-
-// The first slot of a cell that would go, or 0.
-pub fn first_doomed(e: &[u32], first: usize, which: Doomed) -> usize
-    requires { ⌜ Exists (λ g. OneHeld g (now e) first) ⌝ }
-    ensures { λ r. ⌜ ((g : Chain) → OneHeld g (now (e .entry)) first → r ≡ head (select (doomed which) (g .cells))) ⌝ }
-{
-    let mut at = first;
-    while at != 0 {
-        if is_doomed(e, at, which) {
-            return at;
-        }
-        at = next_of(e, at);
-    }
-    0
-}
-
-// The chain from first without the cells that go.
-pub fn sieve(e: &mut [u32], first: usize, which: Doomed) -> Cursor
-    requires { ⌜ Exists (λ g. OneHeld g (now e) first) ⌝ }
-    ensures { λ m. ⌜ ((g : Chain) → OneHeld g (now (e .entry)) first → Sifted (doomed which) g (now (e .exit)) m) ⌝ }
-{
-    let mut m = Cursor {
-        head: first,
-        prior: 0,
-        at: first,
-        gone: 0,
-    };
-    while m.at != 0 {
-        let goes = is_doomed(e, m.at, which);
-        m = sift(e, m, goes);
-    }
-    m
 }

@@ -16,6 +16,27 @@ struct Progress {
     cursor: Cursor,
 }
 
+// The lower points that the upper points and ranges leave.
+pub fn strike(e: &mut [u32], lower: usize, points: usize, ranges: usize) -> Cursor
+    requires { ⌜ Exists (λ g. MeetingHeld g (now e) lower points ranges) ⌝ }
+    ensures { λ m. ⌜ ((g : Meeting) → MeetingHeld g (now (e .entry)) lower points ranges → Struck g (now (e .exit)) m) ⌝ }
+{
+    let mut m = Progress {
+        points: points,
+        ranges: ranges,
+        cursor: Cursor {
+            head: lower,
+            prior: 0,
+            at: lower,
+            gone: 0,
+        },
+    };
+    while m.cursor.at != 0 {
+        m = strike_step(e, m);
+    }
+    m.cursor
+}
+
 // The lower point at the cursor, held against the upper level.
 fn strike_step(e: &mut [u32], m: Progress) -> Progress
     requires { ⌜ Exists (λ g. Striking g (now e) m) ⌝ }
@@ -39,25 +60,4 @@ fn strike_step(e: &mut [u32], m: Progress) -> Progress
         ranges: ranges,
         cursor: sift(e, m.cursor, goes),
     }
-}
-
-// The lower points that the upper points and ranges leave.
-pub fn strike(e: &mut [u32], lower: usize, points: usize, ranges: usize) -> Cursor
-    requires { ⌜ Exists (λ g. MeetingHeld g (now e) lower points ranges) ⌝ }
-    ensures { λ m. ⌜ ((g : Meeting) → MeetingHeld g (now (e .entry)) lower points ranges → Struck g (now (e .exit)) m) ⌝ }
-{
-    let mut m = Progress {
-        points: points,
-        ranges: ranges,
-        cursor: Cursor {
-            head: lower,
-            prior: 0,
-            at: lower,
-            gone: 0,
-        },
-    };
-    while m.cursor.at != 0 {
-        m = strike_step(e, m);
-    }
-    m.cursor
 }

@@ -16,6 +16,26 @@ struct Progress {
     cursor: Cursor,
 }
 
+// The lower ranges that the upper ones do not double; an upper one that doubles takes the later stamp.
+pub fn unite(e: &mut [u32], upper: usize, lower: usize) -> Cursor
+    requires { ⌜ Exists (λ g. RangesHeld g (now e) upper lower) ⌝ }
+    ensures { λ m. ⌜ ((g : Chains) → RangesHeld g (now (e .entry)) upper lower → United g (now (e .exit)) m) ⌝ }
+{
+    let mut m = Progress {
+        upper: upper,
+        cursor: Cursor {
+            head: lower,
+            prior: 0,
+            at: lower,
+            gone: 0,
+        },
+    };
+    while m.cursor.at != 0 {
+        m = unite_step(e, m);
+    }
+    m.cursor
+}
+
 // The lower range at the cursor, held against the first upper one that is left.
 fn unite_step(e: &mut [u32], m: Progress) -> Progress
     requires { ⌜ Exists (λ g. Uniting g (now e) m) ⌝ }
@@ -49,24 +69,4 @@ fn unite_step(e: &mut [u32], m: Progress) -> Progress
         upper: m.upper,
         cursor: sift(e, cursor, false),
     }
-}
-
-// The lower ranges that the upper ones do not double; an upper one that doubles takes the later stamp.
-pub fn unite(e: &mut [u32], upper: usize, lower: usize) -> Cursor
-    requires { ⌜ Exists (λ g. RangesHeld g (now e) upper lower) ⌝ }
-    ensures { λ m. ⌜ ((g : Chains) → RangesHeld g (now (e .entry)) upper lower → United g (now (e .exit)) m) ⌝ }
-{
-    let mut m = Progress {
-        upper: upper,
-        cursor: Cursor {
-            head: lower,
-            prior: 0,
-            at: lower,
-            gone: 0,
-        },
-    };
-    while m.cursor.at != 0 {
-        m = unite_step(e, m);
-    }
-    m.cursor
 }
