@@ -92,12 +92,15 @@ module _ (n : ℕ) (s : Settings) (low : 1 ≤ n) (high : n ≤ 65535) (ok : all
       ∙ ap answered (model.lookups-as-map s ok (upto n) cs k ∙ ap (λ m. get (map-run m no-rows cs .rows) k) (length-upto n)))
 
   -- DEMAND 2: merges and purged numbers are those of the steps, and calls are refused as by a map of as many places.
-  pub answers-as-steps : (cs : List (Call ℕ)) → answers-tables (made-tables n s) cs ≡ answers (fresh s (upto n)) cs
-  answers-as-steps cs = rw made-words (answers-words n (fresh s (upto n)) cs (fresh-formed n s low high ok))
+  answers-of-words : (cs : List (Call ℕ)) → answers-tables (made-tables n s) cs ≡ answers (fresh s (upto n)) cs
+  answers-of-words cs = rw made-words (answers-words n (fresh s (upto n)) cs (fresh-formed n s low high ok))
+
+  pub answers-as-steps : (cs : List (Call ℕ)) → answers-tables (made-tables n s) cs ≡ answers (slotless n s) cs
+  answers-as-steps cs = answers-of-words cs ∙ model.answers-without-slots s ok (upto n) cs ∙ ap (λ x. answers (slotless x s) cs) (length-upto n)
 
   pub refusals-as-map : (cs : List (Call ℕ)) → map (λ (r : Answer). r .refusal) (answers-tables (made-tables n s) cs) ≡ map-refusals n no-rows cs
   refusals-as-map cs =
-      ap (map (λ (r : Answer). r .refusal)) (answers-as-steps cs)
+      ap (map (λ (r : Answer). r .refusal)) (answers-of-words cs)
       ∙ model.refusals-as-map s ok (upto n) cs ∙ ap (λ x. map-refusals x no-rows cs) (length-upto n)
 
   -- DEMAND 3: "had that put carried any other tally, every word of both tables would be the same", of which settings and list alone decide the premises.

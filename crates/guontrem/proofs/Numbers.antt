@@ -7,8 +7,8 @@ use Rattle.model.specs.Calls.{Call}
 use Rattle.tables.proofs.LevelSound.{Fits32}
 use Rattle.calls.specs.Calls.{Called, call-tables}
 use Rattle.calls.proofs.Bounds.{refusal-most, merges-most-12}
-use Rattle.timed.specs.declared.Answer.{Answer}
-use Rattle.timed.specs.Coded.{answer-of, lent, called}
+use Rattle.stages.specs.declared.Answer.{Answer}
+use Rattle.stages.specs.Coded.{answer-of, lent, called}
 use Rattle.guontrem.specs.Packed.{answer-number, packed-call}
 
 module _ (e l e′ l′ : List ℕ) (r : Answer) (c : Call ℕ) (is : called e′ l′ r ≡ call-tables (lent e l) c) where

@@ -16,7 +16,7 @@ ghost use Rattle.lookup.specs.Lookup.{lookup-tables};
 ghost use Rattle.model.specs.Steps.{put, delete, delete-range};
 ghost use Rattle.model.specs.Calls.{written, flush, tick};
 ghost use Rattle.calls.specs.Calls.{call-tables};
-ghost use Rattle.timed.specs.Coded.{lent};
+ghost use Rattle.stages.specs.Coded.{lent};
 ghost use Rattle.guontrem.specs.Packed.{packed, answer-number, packed-call};
 
 // Stamps stand above the tally.

@@ -27,7 +27,7 @@ use Rattle.model.proofs.Deepest.{Drained, merge-all-drained}
 use Rattle.model.proofs.Full.{full-live, live-full}
 use Rattle.model.proofs.PlainMaps.{Alike, run-alike, refusals-alike, fresh-alike, merge-all-clock}
 use Rattle.model.proofs.Scans.{scan-same}
-use Rattle.model.proofs.NaturalCalls.{run-map, answers-map, erased-with-slots}
+use Rattle.model.proofs.NaturalCalls.{run-map, answers-map, erased-with-slots, answers-slotless}
 use Rattle.model.proofs.Erasure.{erasure}
 
 -- DEMAND 1, first for every state, reachable or not.
@@ -151,6 +151,10 @@ module _ {S A : Type 0} (settings : Settings) (ok : allowed settings ≡ true) (
 
   pub refusals-as-map : refusals (fresh {A = A} settings slots) cs ≡ map-refusals (length slots) no-rows cs
   refusals-as-map = refusals-alike (length slots) (fresh settings slots) no-rows cs (fresh-alike settings slots ok)
+
+  -- Merges and purged hang on no slot.
+  pub answers-without-slots : answers (fresh {A = A} settings slots) cs ≡ answers (slotless (length slots) settings) cs
+  answers-without-slots = answers-slotless settings slots cs
 
   -- "purged = held before + written − held after", as a sum, and the most merges that a call can report.
   pub purged-adds-up : (c : Call A) → accepted (run (fresh settings slots) cs) c ≡ true

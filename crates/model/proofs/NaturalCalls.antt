@@ -200,3 +200,9 @@ module _ {S A : Type 0} where
   erased-with-slots settings slots cs i j k a e =
       erased-map (λ (x : S). tt {0}) (λ (x : A). x) (fresh settings slots) cs i j k a (e .write) (e .is-put) (e .is-write)
       (rw (sym (fresh-map (λ (x : S). tt {0}) (λ (x : A). x) settings slots), no-slots slots, same-calls cs) e)
+
+  -- Nor do the answers of a list.
+  pub answers-slotless : (settings : Settings) (slots : List S) (cs : List (Call A)) → answers (fresh settings slots) cs ≡ answers (slotless (length slots) settings) cs
+  answers-slotless settings slots cs =
+      sym (answers-map (λ (x : S). tt {0}) (λ (x : A). x) (fresh settings slots) cs)
+      ∙ rw (sym (fresh-map (λ (x : S). tt {0}) (λ (x : A). x) settings slots), no-slots slots, same-calls cs)

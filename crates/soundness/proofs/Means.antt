@@ -17,10 +17,11 @@ use Rattle.tables.specs.Sound.{free-chain, point-chain, range-chain, is-free, i
 use Rattle.forms.specs.declared.Class.{Class}
 use Rattle.forms.specs.declared.Class.the-variants.{Free, Points, Ranges}
 use Rattle.forms.specs.Forms.{record-fits, row-fits}
-use Rattle.soundness.specs.Slots.{slot-fits}
-use Rattle.soundness.specs.Walks.{rows-fit, unmarked-each, mark-each, walk-fits}
-use Rattle.soundness.specs.Levels.{level-slots, numbers-fit, level-fits, levels-fit-from, chains-fit}
-use Rattle.soundness.proofs.Chains.{chain-nonzero}
+use Rattle.walks.specs.Slots.{slot-fits}
+use Rattle.walks.specs.Walks.{rows-fit, unmarked-each, mark-each, walk-fits}
+use Rattle.walks.specs.Levels.{level-slots, numbers-fit, level-fits}
+use Rattle.walks.proofs.Chains.{chain-nonzero}
+use Rattle.soundness.specs.Levels.{levels-fit-from, chains-fit}
 use Rattle.soundness.proofs.Once.{Blank, marks-mean-once}
 
 and-swap : (a b x y : Bool) → (a && b) && (x && y) ≡ (a && x) && (b && y)

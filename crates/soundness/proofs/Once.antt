@@ -17,8 +17,8 @@ use Rattle.marks.specs.Marks.{mark-of, with-mark}
 use Rattle.marks.proofs.Marks.{length-with-mark, mark-same, mark-other}
 use Rattle.tables.specs.Sound.{every-slot-once}
 use Rattle.tables.proofs.Once.{OnceFacts, once-facts, facts-once, Inside, once-inside, once-most}
-use Rattle.soundness.specs.Walks.{unmarked-each, mark-each, unmarked}
-use Rattle.soundness.proofs.Unmarked.{one-if, clear, unmarked-mark}
+use Rattle.walks.specs.Walks.{unmarked-each, mark-each, unmarked}
+use Rattle.walks.proofs.Unmarked.{one-if, clear, unmarked-mark}
 
 -- What an accepted slot says.
 record Head (n : ℕ) (m : List ℕ) (t : ℕ) (ts : List ℕ) : Type 0 where

@@ -14,7 +14,7 @@ use Rattle.settings.proofs.Answers.{refused-settings, accepted-settings, accept
 use Rattle.tables.specs.Words.{settings-of}
 use Rattle.tables.specs.Sound.{entries-fit, levels-fit}
 use Rattle.tables.proofs.Lengths.{entries-facts}
-use Rattle.soundness.specs.Slots.{Entries}
+use Rattle.walks.specs.Slots.{Entries}
 
 pub entries-known : (e : List ℕ) → entries-fit e ≡ true → Entries e
 entries-known e q = let f = entries-facts e q in record { whole = omega arith; low = omega arith; high = omega arith }

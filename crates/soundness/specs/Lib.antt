@@ -1,4 +1,2 @@
--- What the loops of the check compute, in the order of the code.
-pub mod Slots
-pub mod Walks
+-- What the check computes past one level, in the order of the code.
 pub mod Levels

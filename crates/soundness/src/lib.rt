@@ -1,22 +1,19 @@
-// The soundness check of the two tables: every chain followed once, with one mark for each slot.
+// The soundness check of the two tables: their lengths and settings, then every chain, walked once over one set of marks.
 use forms::Class;
-use forms::row_fits;
-use marks::is_marked;
-use marks::mark;
 use rows::entries_fit;
-use rows::next_of;
-use rows::order_key;
 use rows::slot_count;
 use settings::Checked;
 use settings::Settings;
+use walks::level;
+use walks::walk;
 ghost use mathlib.Core.Path.{_≡_};
 ghost use Prim.Native.Nat.{_+_, _*_, _<_, _≤_};
 ghost use lib.ListN.{length};
 ghost use Rattle.tables.specs.Words.{slots-of, settings-of};
-ghost use Rattle.tables.specs.Sound.{chain-from, levels-fit, table-refusal};
-ghost use Rattle.soundness.specs.Slots.{Entries, slot-fits};
-ghost use Rattle.soundness.specs.Walks.{unmarked, Went};
-ghost use Rattle.soundness.specs.Levels.{numbers-fit, Leveled, levels-fit-from, chains-fit};
+ghost use Rattle.tables.specs.Sound.{levels-fit, table-refusal};
+ghost use Rattle.walks.specs.Slots.{Entries};
+ghost use Rattle.walks.specs.Walks.{unmarked};
+ghost use Rattle.soundness.specs.Levels.{levels-fit-from, chains-fit};
 
 // Refusals by where they are found.
 const ENTRY_LENGTH: u32 = 1;
@@ -24,99 +21,6 @@ const ENTRY_LENGTH: u32 = 1;
 const LEVEL_TABLE: u32 = 2;
 
 const CHAINS: u32 = 3;
-
-// Whether a walk found only what may stand there, and how many slots it passed.
-struct Walked {
-    fits: bool,
-    count: usize,
-}
-
-// Asked before the slot is marked: the order keeps every read inside the table.
-fn slot_fits(class: Class, e: &[u32], owed: u32, least: usize, s: usize, marks: &[u8]) -> bool
-    requires { ⌜ Entries (now e) ⌝ }
-    requires { ⌜ slots-of (now e) < 8 * length (now marks) ⌝ }
-    ensures { λ r. ⌜ r ≡ slot-fits class (now (e .entry)) owed least s (now (marks .entry)) ⌝ }
-{
-    if slot_count(e) < s {
-        return false;
-    }
-    if is_marked(marks, s) != 0 {
-        return false;
-    }
-    row_fits(class, e, owed, least, s)
-}
-
-// Follows the chain from head and marks its slots; a slot that has a mark is met again and ends the walk.
-fn walk(class: Class, e: &[u32], head: usize, owed: u32, marks: &mut [u8]) -> Walked
-    requires { ⌜ Entries (now e) ⌝ }
-    requires { ⌜ slots-of (now e) < 8 * length (now marks) ⌝ }
-    ensures { λ r. ⌜ Went class (now (e .entry)) owed (chain-from (now (e .entry)) head) (now (marks .entry)) (now (marks .exit)) (r .fits) (r .count) ⌝ }
-{
-    let mut at = head;
-    let mut least = 0;
-    let mut count = 0;
-    while at != 0 {
-        if !slot_fits(class, e, owed, least, at, marks) {
-            return Walked {
-                fits: false,
-                count: 0,
-            };
-        }
-        mark(marks, at);
-        least = order_key(e, at) + 1;
-        count += 1;
-        at = next_of(e, at);
-    }
-    Walked { fits: true, count }
-}
-
-// A level's number of records and its owed.
-fn numbers_fit(e: &[u32], l: &[u32], i: usize, count: usize) -> bool
-    requires { ⌜ Entries (now e) ⌝ }
-    requires { ⌜ 4 * (i + 1) + 3 < length (now l) ⌝ }
-    ensures { λ r. ⌜ r ≡ numbers-fit (now (e .entry)) (now (l .entry)) i count ⌝ }
-{
-    let row = 4 * (i + 1);
-    if l[row + 2] as usize != count {
-        return false;
-    }
-    let owed = l[row + 3];
-    if e[1] < owed {
-        return false;
-    }
-    if count != 0 {
-        return true;
-    }
-    owed == 0
-}
-
-// A level's two chains, then its numbers, which need what the chains hold.
-fn level(e: &[u32], l: &[u32], i: usize, marks: &mut [u8]) -> Walked
-    requires { ⌜ Entries (now e) ⌝ }
-    requires { ⌜ slots-of (now e) < 8 * length (now marks) ⌝ }
-    requires { ⌜ 4 * (i + 1) + 3 < length (now l) ⌝ }
-    ensures { λ r. ⌜ Leveled (now (e .entry)) (now (l .entry)) i (now (marks .entry)) (now (marks .exit)) (r .fits) (r .count) ⌝ }
-{
-    let row = 4 * (i + 1);
-    let owed = l[row + 3];
-    let points = walk(Class::Points, e, l[row] as usize, owed, marks);
-    if !points.fits {
-        return Walked {
-            fits: false,
-            count: 0,
-        };
-    }
-    let ranges = walk(Class::Ranges, e, l[row + 1] as usize, owed, marks);
-    if !ranges.fits {
-        return Walked {
-            fits: false,
-            count: 0,
-        };
-    }
-    let count = points.count + ranges.count;
-    let fits = numbers_fit(e, l, i, count);
-    Walked { fits, count }
-}
 
 // All levels, and that their records and the free slots are all slots: with the marks, each then stands once.
 fn levels_fit(e: &[u32], l: &[u32], free: usize, marks: &mut [u8]) -> bool

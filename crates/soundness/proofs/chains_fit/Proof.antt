@@ -1,7 +1,7 @@
 -- `soundness::chains_fit`: the words of slot 0 and the deepest owed, then the free chain, then the levels.
 use Rattle.soundness.proofs.Levels.{chains-fail, chains-go}
 use Rattle.soundness.specs.Levels.{chains-fit}
-use Rattle.soundness.proofs.Unmarked.{unmarked-le}
+use Rattle.walks.proofs.Unmarked.{unmarked-le}
 use Rattle.tables.specs.Words.{slots-of}
 use borrow.Author.Tests.{not-true, not-false}
 use native.Mathlib.Omega.{arith}

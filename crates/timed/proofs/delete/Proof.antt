@@ -4,7 +4,7 @@ use native.Mathlib.Omega.{arith}
 use borrow.Author.Needs.{needs}
 use Rattle.model.specs.Steps.{delete}
 use Rattle.model.specs.Calls.{written}
-use Rattle.timed.proofs.Begun.{begun, away, one-docket}
+use Rattle.stages.proofs.Begun.{begun, away, one-docket}
 use Rattle.timed.proofs.delete.Statement.{statement}
 use Rattle.timed.proofs.delete.Tie as tie
 

@@ -4,7 +4,7 @@ use native.Mathlib.Omega.{arith}
 use borrow.Author.Needs.{needs}
 use Rattle.model.specs.Steps.{delete-range}
 use Rattle.model.specs.Calls.{written}
-use Rattle.timed.proofs.Begun.{begun, away}
+use Rattle.stages.proofs.Begun.{begun, away}
 use Rattle.timed.proofs.delete_range.Statement.{statement}
 use Rattle.timed.proofs.delete_range.Tie as tie
 

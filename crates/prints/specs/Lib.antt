@@ -1,0 +1,2 @@
+-- What a line of the script prints.
+pub mod Texts
