@@ -1,0 +1,4 @@
+-- The script, line by line.
+pub mod Script
+pub mod Memory
+pub mod Cases
