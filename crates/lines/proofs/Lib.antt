@@ -3,4 +3,5 @@ pub mod Numbers
 pub mod Reading
 pub mod Fields
 pub mod Letters
+pub mod Long
 pub mod Cases

@@ -1,0 +1,2 @@
+-- Room that stays.
+pub mod Serves

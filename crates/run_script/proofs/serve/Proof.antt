@@ -1,0 +1,90 @@
+-- `run_script::serve` meets its contract: it ends, and the room stays.
+use mathlib.Core.Path.{_≡_, refl}
+use borrow.Author.Needs.{needs}
+use lib.ListN.{length}
+use Rattle.run_script.specs.Served.{Serving}
+use Rattle.run_script.proofs.serve.Statement.{statement}
+use Rattle.run_script.proofs.serve.Tie as tie
+
+abbrev Inv-loop : tie.InvT-loop
+Inv-loop entries₀ levels₀ line₀ input₀ output₀ m₀ turns₀ entries levels line input output m turns =
+    ((length entries ≡ length entries₀) × (length levels ≡ length levels₀) × (length line ≡ length line₀) × (length input ≡ length input₀) × (length output ≡ length output₀))
+    × Serving entries levels line input output m
+
+abbrev μ-loop : tie.MeasureT-loop
+μ-loop entries₀ levels₀ line₀ input₀ output₀ m₀ turns₀ entries levels line input output m turns = turns
+
+loop-holds : tie.Need-loop-holds Inv-loop μ-loop
+loop-holds c = ((refl, refl, refl, refl, refl), c .before .before .before .before .before .pre)
+
+serve-block-requires : tie.Need-serve-block-requires Inv-loop μ-loop
+serve-block-requires c κs = c .before .before .before .before .before .before .before .loop .inv .1
+
+sub-turns : tie.Need-sub-turns Inv-loop μ-loop
+sub-turns c = search needs
+
+loop-less : tie.Need-loop-less Inv-loop μ-loop
+loop-less c = search needs
+
+loop-again : tie.Need-loop-again Inv-loop μ-loop
+loop-again c = ((search needs, search needs, search needs, search needs, search needs), c .before .before .before .before .before .before .before .before .before .before .serve-block .ensures)
+
+same-length : tie.Need-same-length Inv-loop μ-loop
+same-length c = search needs
+
+same-length-2 : tie.Need-same-length-2 Inv-loop μ-loop
+same-length-2 c = search needs
+
+same-length-3 : tie.Need-same-length-3 Inv-loop μ-loop
+same-length-3 c = search needs
+
+same-length-4 : tie.Need-same-length-4 Inv-loop μ-loop
+same-length-4 c = search needs
+
+same-length-5 : tie.Need-same-length-5 Inv-loop μ-loop
+same-length-5 c = search needs
+
+returns : tie.Need-returns Inv-loop μ-loop
+returns c = search needs
+
+same-length-6 : tie.Need-same-length-6 Inv-loop μ-loop
+same-length-6 c = search needs
+
+same-length-7 : tie.Need-same-length-7 Inv-loop μ-loop
+same-length-7 c = search needs
+
+same-length-8 : tie.Need-same-length-8 Inv-loop μ-loop
+same-length-8 c = search needs
+
+same-length-9 : tie.Need-same-length-9 Inv-loop μ-loop
+same-length-9 c = search needs
+
+same-length-10 : tie.Need-same-length-10 Inv-loop μ-loop
+same-length-10 c = search needs
+
+returns-2 : tie.Need-returns-2 Inv-loop μ-loop
+returns-2 c = search needs
+
+pub serve-spec : {M : Type 1} → statement M
+serve-spec =
+    tie.close
+    (tie.spec
+    Inv-loop
+    μ-loop
+    loop-holds
+    serve-block-requires
+    sub-turns
+    loop-less
+    loop-again
+    same-length
+    same-length-2
+    same-length-3
+    same-length-4
+    same-length-5
+    returns
+    same-length-6
+    same-length-7
+    same-length-8
+    same-length-9
+    same-length-10
+    returns-2)

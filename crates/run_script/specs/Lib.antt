@@ -1,0 +1,2 @@
+-- The room that the program needs.
+pub mod Served

@@ -1,0 +1,13 @@
+-- The program's arrays between two blocks.
+use mathlib.Core.Path.{_≡_}
+use mathlib.Core.List.{List}
+use Prim.Native.Nat.{ℕ}
+use lib.ListN.{length}
+use Rattle.stream.specs.Room.{Ready}
+use Rattle.run_script.specs.declared.Served.{Served}
+
+-- Room for the store and a line, and for all that a block of input prints.
+pub record Serving (e l line input output : List ℕ) (m : Served) : Type 0 where
+  pub ready : Ready e l line (record { slots = m .slots; deepest = m .deepest; length = m .length; waiting = 0 })
+  pub input-room : length input ≡ 8192
+  pub output-room : length output ≡ 270336

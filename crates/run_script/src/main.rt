@@ -1,0 +1,132 @@
+// The script program of document 01: reads standard input and prints three numbers for each line.
+use libc::STDIN_FILENO;
+use libc::STDOUT_FILENO;
+use stream::Progress;
+use stream::feed;
+use stream::finish;
+ghost use mathlib.Core.Path.{_≡_};
+ghost use Prim.Native.Nat.{_≤_};
+ghost use mathlib.Core.Bool.{true};
+ghost use lib.ListN.{length};
+ghost use Rattle.run_script.specs.Served.{Serving};
+
+// Where a script stands between two blocks, and whether it goes on: the input may have more, and the output takes it.
+struct Served {
+    slots: usize,
+    deepest: usize,
+    length: usize,
+    more: bool,
+}
+
+fn main() {
+    let mut entries = entry_room();
+    let mut levels = level_room();
+    let mut line = line_room();
+    let mut input = input_room();
+    let mut output = output_room();
+    serve(
+        &mut entries,
+        &mut levels,
+        &mut line,
+        &mut input,
+        &mut output,
+    );
+}
+
+// Words for 4,000 slots.
+fn entry_room() -> [u32; 16004]
+    ensures { λ r. ⌜ 16004 ≡ length r ⌝ }
+{
+    [0; 16004]
+}
+
+// Words for six levels.
+fn level_room() -> [u32; 32]
+    ensures { λ r. ⌜ 32 ≡ length r ⌝ }
+{
+    [0; 32]
+}
+
+fn line_room() -> [u8; 64]
+    ensures { λ r. ⌜ 64 ≡ length r ⌝ }
+{
+    [0; 64]
+}
+
+fn input_room() -> [u8; 8192]
+    ensures { λ r. ⌜ 8192 ≡ length r ⌝ }
+{
+    [0; 8192]
+}
+
+// A byte of input ends at most one line, which prints at most 33 bytes.
+fn output_room() -> [u8; 270336]
+    ensures { λ r. ⌜ 270336 ≡ length r ⌝ }
+{
+    [0; 270336]
+}
+
+// Reads blocks until the input ends or the output is closed.
+fn serve(
+    entries: &mut [u32],
+    levels: &mut [u32],
+    line: &mut [u8],
+    input: &mut [u8],
+    output: &mut [u8],
+)
+    requires { ⌜ Serving (now entries) (now levels) (now line) (now input) (now output) (record { slots = 0; deepest = 0; length = 0; more = true }) ⌝ }
+{
+    let mut m = Served {
+        slots: 0,
+        deepest: 0,
+        length: 0,
+        more: true,
+    };
+    // A proved loop has to end: it counts down from a number that no run uses up.
+    let mut turns = u64::MAX;
+    while turns > 0 && m.more {
+        m = serve_block(entries, levels, line, input, output, m);
+        turns -= 1;
+    }
+}
+
+// Reads a block and writes out what it prints before the next is read, so that whoever types sees each answer at once.
+fn serve_block(
+    entries: &mut [u32],
+    levels: &mut [u32],
+    line: &mut [u8],
+    input: &mut [u8],
+    output: &mut [u8],
+    m: Served,
+) -> Served
+    requires { ⌜ Serving (now entries) (now levels) (now line) (now input) (now output) m ⌝ }
+    ensures { λ r. ⌜ Serving (now (entries .exit)) (now (levels .exit)) (now (line .exit)) (now (input .exit)) (now (output .exit)) r ⌝ }
+{
+    let start = Progress {
+        slots: m.slots,
+        deepest: m.deepest,
+        length: m.length,
+        waiting: 0,
+    };
+    let n = io::count(libc::read(STDIN_FILENO, input), input);
+    if n == 0 {
+        let last = finish(entries, levels, line, output, start);
+        return write_out(output, last, false);
+    }
+    let next = feed(&input[..n], entries, levels, line, output, start);
+    write_out(output, next, true)
+}
+
+// Writes out what waits; the script goes on if the input does and all was written.
+fn write_out(output: &[u8], m: Progress, unread: bool) -> Served
+    requires { ⌜ m .waiting ≤ length (now output) ⌝ }
+    ensures { λ r. ⌜ (r .slots ≡ m .slots) × (r .deepest ≡ m .deepest) × (r .length ≡ m .length) ⌝ }
+{
+    let written = io::write_all(STDOUT_FILENO, &output[..m.waiting]);
+    Served {
+        slots: m.slots,
+        deepest: m.deepest,
+        length: m.length,
+        more: unread && written,
+    }
+}
