@@ -1,9 +1,10 @@
-/* The timed calls of document 01, written plainly in C: chains merged in place behind a tail pointer. */
+/* The calls of document 01, written plainly in C: chains merged in place behind a tail pointer. */
 #include "native_store.h"
 
 #include "native_check.h"
 
 #include <stdbool.h>
+#include <string.h>
 
 enum { PUT = 1, DELETE = 2, RANGE = 3, LAST_DOCKET = 65535 };
 
@@ -246,4 +247,27 @@ struct native_answer native_tick(uint32_t *e, size_t ne, uint32_t *l, size_t nl,
     uint32_t refusal = refusal_of(e, ne, l, nl, clock, 0, 0);
     if (refusal != 0) return refused(refusal);
     return finish(e, l, clock, held_all(l), 0);
+}
+
+uint32_t native_make(uint32_t *e, size_t ne, uint32_t *l, size_t nl, uint32_t deepest, uint32_t ratio, uint32_t buffer, uint32_t term) {
+    if (ne % 4 != 0 || ne < 8 || 262144 < ne) return 1;
+    if (deepest < 2 || 6 < deepest || ratio < 2 || 10 < ratio || buffer < 1 || 64 < buffer || term < 1) return 6;
+    if (nl != 4 * ((size_t)deepest + 2)) return 2;
+    uint32_t slots = (uint32_t)(ne / 4 - 1);
+    memset(e, 0, ne * sizeof *e);
+    memset(l, 0, nl * sizeof *l);
+    for (uint32_t s = 0; s < slots; s++) e[4 * s] = s + 1;
+    l[0] = deepest, l[1] = ratio, l[2] = buffer, l[3] = term;
+    return 0;
+}
+
+struct native_found native_lookup(const uint32_t *e, size_t ne, const uint32_t *l, size_t nl, uint32_t docket) {
+    struct native_found absent = {native_checks ? native_check(e, ne, l, nl) : 0, 0, 0, 0};
+    if (absent.refusal == 0 && docket > LAST_DOCKET) absent.refusal = 4;
+    for (uint32_t i = 0; absent.refusal == 0 && i <= l[0]; i++) {
+        uint32_t points = l[4 * (i + 1)], ranges = l[4 * (i + 1) + 1], at = find_within(e, points, docket, docket);
+        if (at != 0 && kind_of(e, at) == PUT) return (struct native_found){0, 1, e[4 * at + 2], e[4 * at + 3]};
+        if (at != 0 || walk_covers(e, ranges, docket)) break;
+    }
+    return absent;
 }

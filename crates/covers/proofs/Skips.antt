@@ -12,7 +12,7 @@ use Rattle.lists.proofs.Bools.{cond-elim, and-false-right, and-right}
 use Rattle.tables.specs.Words.{next-of, lo-of, hi-of}
 use Rattle.tables.specs.Sound.{chain-from, ascend, order-key}
 use Rattle.covers.specs.Walks.{Walkable, Ordered}
-use Rattle.covers.specs.Skips.{drop-while, first-slot, reaching}
+use Rattle.covers.specs.Skips.{drop-while, first-slot, from-bound, reaching}
 use Rattle.covers.proofs.Chains.{On, chain-is, chain-short, chain-end, ascend-any}
 use Rattle.covers.proofs.Walks.{slots-say, ranges-say}
 
@@ -51,39 +51,40 @@ module _ (e : List ℕ) where
       (λ p. rw (and-false-right (leb (lo-of e s) k) (leb k (hi-of e s)) (lt-leb k (hi-of e s) (omega (arith, ltb-true (hi-of e s) j p)))) (reaching-says j k le ss))
       (λ p. refl)
 
-module _ (e : List ℕ) (h k : ℕ) (o : Ordered e h) where
+module _ (e : List ℕ) (bound : ℕ → ℕ) (h k : ℕ) (o : Ordered e h) where
   abbrev left : List ℕ
-  left = reaching e k (chain-from e h)
+  left = from-bound bound k (chain-from e h)
 
   left-whole : Whole e (first-slot left) left
   left-whole =
-      drop-whole e (λ s. ltb (hi-of e s) k) h (chain-from e h)
+      drop-whole e (λ s. ltb (bound s) k) h (chain-from e h)
       (record { chained = o .chained; order = o .order; short = chain-short e (length e) h })
 
   module _ (r : ℕ) (is : r ≡ first-slot left) where
-    pub skip-chain : chain-from e r ≡ left
-    skip-chain = rw is (chain-is e (length e) (first-slot left) left (left-whole .chained) (left-whole .short))
+    pub front-chain : chain-from e r ≡ left
+    front-chain = rw is (chain-is e (length e) (first-slot left) left (left-whole .chained) (left-whole .short))
 
-    pub skip-ordered : Ordered e r
-    skip-ordered = record {
-      chained = rw skip-chain (rw is (left-whole .chained));
-      order = rw skip-chain (left-whole .order);
+    pub front-ordered : Ordered e r
+    front-ordered = record {
+      chained = rw front-chain (rw is (left-whole .chained));
+      order = rw front-chain (left-whole .order);
     }
 
-    pub skip-says : (j : ℕ) → k ≤ j → ranges-say e h j ≡ ranges-say e r j
-    skip-says j le = rw skip-chain (reaching-says e k j le (chain-from e h))
+module _ (e : List ℕ) (h k : ℕ) (o : Ordered e h) (r : ℕ) (is : r ≡ first-slot (reaching e k (chain-from e h))) where
+  pub skip-says : (j : ℕ) → k ≤ j → ranges-say e h j ≡ ranges-say e r j
+  skip-says j le = rw (front-chain e (hi-of e) h k o r is) (reaching-says e k j le (chain-from e h))
 
--- Each turn of the walk, and each way out of it.
-module _ (e : List ℕ) (h k : ℕ) where
-  pub reaching-end : h ≡ 0 → reaching e k (chain-from e h) ≡ []
+-- Each turn of a walk, and each way out of it.
+module _ (e : List ℕ) (bound : ℕ → ℕ) (h k : ℕ) where
+  pub front-end : h ≡ 0 → from-bound bound k (chain-from e h) ≡ []
   unfolding drop-while
-  reaching-end z = rw (chain-end e h z)
+  front-end z = rw (chain-end e h z)
 
   module _ (on : On e h) where
-    pub reaching-here : k ≤ hi-of e h → first-slot (reaching e k (chain-from e h)) ≡ h
+    pub front-here : k ≤ bound h → first-slot (from-bound bound k (chain-from e h)) ≡ h
     unfolding drop-while
-    reaching-here le = rw (on .whole, le-ltb (hi-of e h) k le)
+    front-here le = rw (on .whole, le-ltb (bound h) k le)
 
-    pub reaching-next : hi-of e h < k → reaching e k (chain-from e h) ≡ reaching e k (chain-from e (next-of e h))
+    pub front-next : bound h < k → from-bound bound k (chain-from e h) ≡ from-bound bound k (chain-from e (next-of e h))
     unfolding drop-while
-    reaching-next lt = rw (on .whole, lt-ltb (hi-of e h) k lt)
+    front-next lt = rw (on .whole, lt-ltb (bound h) k lt)

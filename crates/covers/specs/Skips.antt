@@ -1,9 +1,9 @@
--- A chain without the records at its front that end before a docket.
+-- A chain without the records at its front that begin, or end, before a docket.
 use mathlib.Core.Bool.{Bool, cond}
 use mathlib.Core.List.{List, [], _∷_}
 use Prim.Native.Nat.{ℕ}
 use lib.Dec.{ltb}
-use Rattle.tables.specs.Words.{hi-of}
+use Rattle.tables.specs.Words.{lo-of, hi-of}
 
 -- The list from the first element on that fails the test.
 unfoldable pub drop-while : {X : Type 0} → (X → Bool) → List X → List X
@@ -15,6 +15,13 @@ abbrev pub first-slot : List ℕ → ℕ
 first-slot [] = 0
 first-slot (s ∷ ss) = s
 
--- The slots from the first on that reaches the docket.
+-- The slots from the first on whose bound is no earlier than the docket.
+abbrev pub from-bound : (ℕ → ℕ) → ℕ → List ℕ → List ℕ
+from-bound bound k ss = drop-while (λ s. ltb (bound s) k) ss
+
+-- The slots from the first on that begins at the docket or later, and from the first on that reaches it.
+abbrev pub beginning : List ℕ → ℕ → List ℕ → List ℕ
+beginning e k ss = from-bound (lo-of e) k ss
+
 abbrev pub reaching : List ℕ → ℕ → List ℕ → List ℕ
-reaching e k ss = drop-while (λ s. ltb (hi-of e s) k) ss
+reaching e k ss = from-bound (hi-of e) k ss

@@ -1,5 +1,6 @@
 // Walks along a chain that ask whether a record is over a docket.
 use rows::hi_of;
+use rows::lo_of;
 use rows::next_of;
 ghost use mathlib.Core.Path.{_≡_};
 ghost use mathlib.Core.List.{map};
@@ -7,7 +8,7 @@ ghost use Rattle.model.specs.Merge.{covered};
 ghost use Rattle.tables.specs.Sound.{chain-from};
 ghost use Rattle.tables.specs.Placed.{read-range};
 ghost use Rattle.covers.specs.Walks.{Ordered};
-ghost use Rattle.covers.specs.Skips.{first-slot, reaching};
+ghost use Rattle.covers.specs.Skips.{first-slot, beginning, reaching};
 
 // Lo and hi are stacked in a word at this base.
 const BASE: u32 = 65536;
@@ -29,6 +30,21 @@ pub fn is_covered(e: &[u32], head: usize, docket: u32) -> bool
         at = next_of(e, at);
     }
     false
+}
+
+// Passes the records that begin before the docket.
+pub fn seek(e: &[u32], from: usize, docket: u32) -> usize
+    requires { ⌜ Ordered (now e) from ⌝ }
+    ensures { λ r. ⌜ r ≡ first-slot (beginning (now (e .entry)) docket (chain-from (now (e .entry)) from)) ⌝ }
+{
+    let mut at = from;
+    while at != 0 {
+        if docket <= lo_of(e, at) {
+            return at;
+        }
+        at = next_of(e, at);
+    }
+    0
 }
 
 // Passes the records that end before the docket: what is left says the same of it, and of every later one.

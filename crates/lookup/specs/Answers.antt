@@ -1,11 +1,13 @@
 -- What one chain, one level and all levels say of a docket, as the code's answers.
 use mathlib.Core.Bool.{cond}
-use mathlib.Core.List.{List, [], _∷_}
+use mathlib.Core.List.{List, [], _∷_, map}
 use Prim.Native.Nat.{ℕ}
 use lib.Dec.{eqb}
 use Rattle.model.specs.Records.{Entry, value, tombstone, Point, Level}
 use Rattle.model.specs.Merge.{covered}
 use Rattle.model.specs.Lookup as model
+use Rattle.tables.specs.Sound.{chain-from}
+use Rattle.tables.specs.Placed.{read-point, read-range}
 use Rattle.lookup.specs.declared.Decided.{Decided}
 use Rattle.lookup.specs.declared.Decided.the-variants.{Value, Absent, Deeper}
 use Rattle.lookup.specs.declared.Found as answer
@@ -31,6 +33,10 @@ abbrev pub or-else : Decided → Decided → Decided
 or-else (Value a t) d = Value a t
 or-else Absent d = Absent
 or-else Deeper d = d
+
+-- The level that two chains, by their first slots, hold.
+abbrev pub chain-level : List ℕ → ℕ → ℕ → Level ℕ ℕ
+chain-level e points ranges = record { points = map (read-point e) (chain-from e points); ranges = map (read-range e) (chain-from e ranges); owed = 0 }
 
 -- What a level decides: "before going deeper, a range over the docket means absent".
 unfoldable pub level-decides : Level ℕ ℕ → ℕ → Decided

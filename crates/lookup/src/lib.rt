@@ -11,7 +11,7 @@ ghost use Rattle.tables.specs.Words.{settings-of};
 ghost use Rattle.tables.specs.Sound.{chain-from};
 ghost use Rattle.tables.specs.Placed.{read-point, read-level, read-state};
 ghost use Rattle.covers.specs.Walks.{Ordered};
-ghost use Rattle.lookup.specs.Answers.{tells, decides, level-decides, found-of};
+ghost use Rattle.lookup.specs.Answers.{tells, decides, chain-level, level-decides, found-of};
 ghost use Rattle.lookup.specs.Readable.{Readable};
 ghost use Rattle.lookup.specs.Lookup.{lookup-tables};
 
@@ -40,7 +40,7 @@ enum Found {
 }
 
 // What one level says: a tally and a stamp, that the docket is absent, or to go deeper.
-enum Decided {
+pub enum Decided {
     Value(u32, u32),
     Absent,
     Deeper,
@@ -93,19 +93,28 @@ fn find_point(e: &[u32], head: usize, docket: u32) -> Decided
     Decided::Deeper
 }
 
-// One level: its points first, then its ranges.
+// One level, given by its chains: its points first, then its ranges.
+pub fn look_chains(e: &[u32], points: usize, ranges: usize, docket: u32) -> Decided
+    requires { ⌜ Ordered (now e) points ⌝ }
+    requires { ⌜ Ordered (now e) ranges ⌝ }
+    ensures { λ r. ⌜ r ≡ level-decides (chain-level (now (e .entry)) points ranges) docket ⌝ }
+{
+    let by_points = find_point(e, points, docket);
+    if let Decided::Deeper = by_points {
+        if is_covered(e, ranges, docket) {
+            return Decided::Absent;
+        }
+    }
+    by_points
+}
+
+// One level, by its row.
 fn look_level(e: &[u32], l: &[u32], level: usize, docket: u32) -> Decided
     requires { ⌜ Readable (now e) (now l) × (level ≤ settings-of (now l) .deepest) ⌝ }
     ensures { λ r. ⌜ r ≡ level-decides (read-level (now (e .entry)) (now (l .entry)) level) docket ⌝ }
 {
     let row = 4 * (level + 1);
-    let by_points = find_point(e, l[row] as usize, docket);
-    if let Decided::Deeper = by_points {
-        if is_covered(e, l[row + 1] as usize, docket) {
-            return Decided::Absent;
-        }
-    }
-    by_points
+    look_chains(e, l[row] as usize, l[row + 1] as usize, docket)
 }
 
 // Reads the levels from 0, and stops at the first that decides.

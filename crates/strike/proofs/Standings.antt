@@ -15,7 +15,7 @@ use Rattle.chains.proofs.Reading.{place-cells}
 use Rattle.covers.specs.Walks.{Ordered}
 use Rattle.covers.specs.Skips.{first-slot, reaching}
 use Rattle.covers.proofs.Walks.{ranges-say}
-use Rattle.covers.proofs.Skips.{skip-chain, skip-says}
+use Rattle.covers.proofs.Skips.{front-chain, skip-says}
 use Rattle.strike.specs.Striking.{Standing}
 use Rattle.strike.proofs.Places.{slots-over, place-over, place-ordered}
 use Rattle.strike.proofs.Suffixes.{Suffix, drop-while-suffix, suffix-all, suffix-ordered}
@@ -68,7 +68,7 @@ module _ {n clock : ℕ} {free : List ℕ} {cells lower : List Cell} {others : L
       left = map (cell-at e) (chain-from e at′)
 
       chain-left : chain-from e at′ ≡ reaching e k (chain-from e at)
-      chain-left = skip-chain e at k rest-ordered at′ is
+      chain-left = front-chain e (hi-of e) at k rest-ordered at′ is
 
       left-over : (j : ℕ) → k ≤ j → any-over left j ≡ any-over (st .rest) j
       left-over j le = sym (slots-over e (chain-from e at′) j) ∙ sym (skip-says e at k rest-ordered at′ is j le) ∙ rest-over j

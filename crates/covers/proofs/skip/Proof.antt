@@ -2,11 +2,12 @@
 use mathlib.Core.Path.{_≡_, refl, sym, ap, _∙_}
 use native.Mathlib.Omega.{arith}
 use lib.ListN.{length}
+use Rattle.tables.specs.Words.{hi-of}
 use Rattle.tables.specs.Sound.{chain-from}
 use Rattle.covers.specs.Walks.{Ordered}
 use Rattle.covers.specs.Skips.{first-slot, reaching}
 use Rattle.covers.proofs.Chains.{go-on, shorter}
-use Rattle.covers.proofs.Skips.{reaching-end, reaching-here, reaching-next}
+use Rattle.covers.proofs.Skips.{front-end, front-here, front-next}
 use Rattle.covers.proofs.skip.Statement.{statement}
 use Rattle.covers.proofs.skip.Tie as tie
 
@@ -25,7 +26,8 @@ hi-of-requires c κs = go-on _ _ (c .before .loop .inv .0) (c .loop-test .taken)
 returns : tie.Need-returns Inv-loop μ-loop
 returns c =
     let on = go-on _ _ (c .before .before .before .loop .inv .0) (c .before .before .loop-test .taken) in
-    sym (reaching-here _ _ _ on (omega (arith, c .before .hi-of .ensures))) ∙ ap first-slot (c .before .before .before .loop .inv .1)
+    let e = c .before .before .before .before .before .args .e .now in
+    sym (front-here e (hi-of e) (c .before .before .before .loop .at) (c .before .before .before .before .before .args .docket) on (omega (arith, c .before .hi-of .ensures))) ∙ ap first-slot (c .before .before .before .loop .inv .1)
 
 next-of-requires : tie.Need-next-of-requires Inv-loop μ-loop
 next-of-requires c κs = go-on _ _ (c .before .before .before .loop .inv .0) (c .before .before .loop-test .taken) .within
@@ -38,13 +40,14 @@ loop-less c =
 loop-again : tie.Need-loop-again Inv-loop μ-loop
 loop-again c =
     let on = go-on _ _ (c .before .before .before .before .loop .inv .0) (c .before .before .before .loop-test .taken) in
+    let e = c .before .before .before .before .before .before .args .e .now in
     rw (c .next-of .ensures)
-    (on .rest, sym (reaching-next _ _ _ on (omega (arith, c .before .before .hi-of .ensures))) ∙ c .before .before .before .before .loop .inv .1)
+    (on .rest, sym (front-next e (hi-of e) (c .before .before .before .before .loop .at) (c .before .before .before .before .before .before .args .docket) on (omega (arith, c .before .before .hi-of .ensures))) ∙ c .before .before .before .before .loop .inv .1)
 
 returns-2 : tie.Need-returns-2 Inv-loop μ-loop
 returns-2 c =
     let a = c .before .before .before .args in
-    ap first-slot (sym (reaching-end (a .e .now) (c .before .loop .at) (a .docket) (c .loop-test .left)) ∙ c .before .loop .inv .1)
+    ap first-slot (sym (front-end (a .e .now) (hi-of (a .e .now)) (c .before .loop .at) (a .docket) (c .loop-test .left)) ∙ c .before .loop .inv .1)
 
 pub skip-spec : {M : Type 1} → statement M
 skip-spec =
