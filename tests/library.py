@@ -5,6 +5,7 @@ import pathlib
 ROOT = pathlib.Path(__file__).parent.parent
 STAMP_UNIT = 1 << 32
 MERGES_UNIT, REFUSAL_UNIT = 1 << 32, 1 << 40
+NEXT_UNIT, MORE_UNIT, SCAN_REFUSAL_UNIT = 1 << 32, 1 << 48, 1 << 56
 
 _words = ctypes.POINTER(ctypes.c_uint32)
 _tables = [_words, ctypes.c_size_t, _words, ctypes.c_size_t]
@@ -17,6 +18,14 @@ for _name, (_numbers, _answer) in _names.items():
     _call = getattr(_library, f"guontrem_{_name}")
     _call.argtypes = _tables + [ctypes.c_uint32] * _numbers
     _call.restype = _answer
+
+
+class _Row(ctypes.Structure):
+    _fields_ = [("docket", ctypes.c_uint32), ("tally", ctypes.c_uint32), ("stamp", ctypes.c_uint32)]
+
+
+_library.guontrem_scan.argtypes = _tables + [ctypes.c_uint32] * 2 + [ctypes.POINTER(_Row), ctypes.c_size_t]
+_library.guontrem_scan.restype = ctypes.c_uint64
 
 
 def _lend(call, entries, levels, *numbers):
@@ -81,3 +90,10 @@ class Store:
         """Document 01's four numbers: refusal, found, tally, stamp."""
         stamp, rest = divmod(self._call("lookup", docket), STAMP_UNIT)
         return (0, 1, rest, stamp) if stamp else (rest, 0, 0, 0)
+
+    def scan(self, lo, hi, rows):
+        """Document 01's numbers, refusal, count, more and next docket, and the lent rows as the scan left them."""
+        lent = (_Row * max(1, len(rows)))(*rows)
+        answer = _library.guontrem_scan(self._entries, self._entry_words, self._levels, self._level_words, lo, hi, lent, len(rows))
+        numbers = (answer // SCAN_REFUSAL_UNIT, answer % NEXT_UNIT, answer // MORE_UNIT % 2 == 1, answer // NEXT_UNIT % 65536)
+        return numbers, [(row.docket, row.tally, row.stamp) for row in lent[:len(rows)]]

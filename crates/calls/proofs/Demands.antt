@@ -7,11 +7,13 @@ use mathlib.Core.Logic.{_↔_}
 use native.Mathlib.Omega.{arith}
 use borrow.Author.Tests.{le-ltb}
 use Prim.Native.Nat.{ℕ, _≤_}
+use lib.ListN.{length}
 use Rattle.settings.specs.declared.Settings.{Settings}
 use Rattle.settings.specs.Limits.{allowed}
 use Rattle.model.specs.Records.{State, fresh, slotless}
 use Rattle.model.specs.Steps.{put, merge-all}
 use Rattle.model.specs.Calls.{Call, Answer, written, bad-clock, out-of-slots, run, answers}
+use Rattle.model.specs.Lookup.{scan}
 use Rattle.model.specs.Live as live
 use Rattle.model.specs.PlainMap.{get, map-run, map-refusals, no-rows}
 use Rattle.model.specs.Erasure.{retally, Erased}
@@ -27,6 +29,9 @@ use Rattle.make.specs.Make.{made-entries, made-levels, upto}
 use Rattle.make.proofs.Fresh.{length-upto, fresh-formed, made-entry-words, made-level-words}
 use Rattle.lookup.specs.Lookup.{answered, lookup-tables}
 use Rattle.lookup.proofs.Refused.{looked-up-words}
+use Rattle.scan.specs.declared.Row.{Row}
+use Rattle.scan.specs.Scan.{filled, scan-tables}
+use Rattle.scan.proofs.Words.{scanned-words}
 use Rattle.calls.specs.Calls.{Tables, words, call-tables, run-tables, answers-tables, merged-tables}
 use Rattle.calls.specs.Full.{SlotsLive}
 use Rattle.calls.proofs.Runs.{words-slots, run-words, answers-words}
@@ -90,6 +95,15 @@ module _ (n : ℕ) (s : Settings) (low : 1 ≤ n) (high : n ≤ 65535) (ok : all
       rw (runs cs)
       (looked-up-words n (run (fresh s (upto n)) cs) k (formed cs) h
       ∙ ap answered (model.lookups-as-map s ok (upto n) cs k ∙ ap (λ m. get (map-run m no-rows cs .rows) k) (length-upto n)))
+
+  -- DEMAND 2: and so do scans: count, 'more', the next docket and every row.
+  pub scans-as-map : (cs : List (Call ℕ)) (lo hi : ℕ) (rows : List Row) → lo ≤ hi → hi ≤ 65535
+      → scan-tables (run-tables (made-tables n s) cs .entries) (run-tables (made-tables n s) cs .levels) lo hi rows
+      ≡ filled (scan (get (map-run n no-rows cs .rows)) lo hi (length rows)) rows
+  scans-as-map cs lo hi rows order high =
+      rw (runs cs)
+      (scanned-words n (run (fresh s (upto n)) cs) lo hi rows (formed cs) order high
+      ∙ ap (λ found. filled found rows) (model.scans-as-map s ok (upto n) cs lo hi (length rows) ∙ ap (λ m. scan (get (map-run m no-rows cs .rows)) lo hi (length rows)) (length-upto n)))
 
   -- DEMAND 2: merges and purged numbers are those of the steps, and calls are refused as by a map of as many places.
   answers-of-words : (cs : List (Call ℕ)) → answers-tables (made-tables n s) cs ≡ answers (fresh s (upto n)) cs

@@ -1,8 +1,10 @@
 -- Answers as one 64-bit number.
+use mathlib.Core.Bool.{cond}
 use Prim.Native.Nat.{ℕ, _+_, _*_}
 use Rattle.model.specs.Calls as model
 use Rattle.lookup.specs.declared.Answer.{Answer}
 use Rattle.lookup.specs.declared.Answer.the-variants.{Refused, Absent, Found}
+use Rattle.scan.specs.declared.Scanned.{Scanned}
 use Rattle.calls.specs.Calls.{Tables, Called}
 
 -- A lookup's: tally and stamp in its halves, or a refusal alone.
@@ -21,3 +23,7 @@ pub record PackedCall : Type 0 where
 
 abbrev pub packed-call : Called → PackedCall
 packed-call r = record { tables = r .tables; number = answer-number (r .answer) }
+
+-- A scan's: the count in the lower half, the next docket from bit 32, 'more' as bit 48, the refusal from bit 56.
+abbrev pub packed-scan : Scanned → ℕ
+packed-scan a = a .count + 4294967296 * a .next + cond (a .more) 281474976710656 0 + 72057594037927936 * a .refusal

@@ -2,6 +2,9 @@
 use lookup::Answer;
 use lookup::lookup;
 use make::make;
+use scan::Row;
+use scan::Scanned;
+use scan::scan;
 use soundness::table_refusal;
 use timed::delete;
 use timed::delete_range;
@@ -9,15 +12,16 @@ use timed::flush;
 use timed::put;
 use timed::tick;
 ghost use mathlib.Core.Path.{_≡_};
-ghost use Prim.Native.Nat.{_≤_};
+ghost use Prim.Native.Nat.{_<_, _≤_};
 ghost use Rattle.tables.specs.Sound.{table-refusal};
 ghost use Rattle.make.specs.Make.{make-tables};
 ghost use Rattle.lookup.specs.Lookup.{lookup-tables};
 ghost use Rattle.model.specs.Steps.{put, delete, delete-range};
 ghost use Rattle.model.specs.Calls.{written, flush, tick};
 ghost use Rattle.calls.specs.Calls.{call-tables};
+ghost use Rattle.scan.specs.Scan.{scan-tables};
 ghost use Rattle.stages.specs.Coded.{lent};
-ghost use Rattle.guontrem.specs.Packed.{packed, answer-number, packed-call};
+ghost use Rattle.guontrem.specs.Packed.{packed, answer-number, packed-call, packed-scan};
 
 // Stamps stand above the tally.
 const STAMP_UNIT: u64 = 4294967296;
@@ -26,6 +30,13 @@ const STAMP_UNIT: u64 = 4294967296;
 const MERGES_UNIT: u64 = 4294967296;
 
 const REFUSAL_UNIT: u64 = 1099511627776;
+
+// The next docket, 'more' and the refusal of a scan stand above its count.
+const NEXT_UNIT: u64 = 4294967296;
+
+const MORE_UNIT: u64 = 281474976710656;
+
+const SCAN_REFUSAL_UNIT: u64 = 72057594037927936;
 
 // The number of the refusal that the tables meet, 1 to 3, or 0 where they are sound.
 #[no_mangle]
@@ -131,4 +142,33 @@ pub extern "C" fn guontrem_tick(entries: &mut [u32], levels: &mut [u32], clock: 
 {
     let answer = tick(entries, levels, clock);
     pack(answer.refusal, answer.merges, answer.purged)
+}
+
+// Fills the rows with the live dockets from lo to hi: count in the lower half, the next docket from bit 32, 'more' as bit 48, the refusal from bit 56.
+#[no_mangle]
+pub extern "C" fn guontrem_scan(
+    entries: &[u32],
+    levels: &[u32],
+    lo: u32,
+    hi: u32,
+    rows: &mut [Row],
+) -> u64
+    ensures { λ r. ⌜ r ≡ packed-scan (scan-tables (now (entries .entry)) (now (levels .entry)) lo hi (now (rows .entry)) .answer) ⌝ }
+    ensures { λ _. ⌜ now (rows .exit) ≡ scan-tables (now (entries .entry)) (now (levels .entry)) lo hi (now (rows .entry)) .rows ⌝ }
+{
+    pack_scan(scan(entries, levels, lo, hi, rows))
+}
+
+// The answer of a scan as one number.
+fn pack_scan(answer: Scanned) -> u64
+    requires { ⌜ (answer .count < 4294967296) × (answer .next < 65536) × (answer .refusal < 256) ⌝ }
+    ensures { λ r. ⌜ r ≡ packed-scan answer ⌝ }
+{
+    if answer.more {
+        return answer.count as u64
+            + NEXT_UNIT * answer.next as u64
+            + MORE_UNIT
+            + SCAN_REFUSAL_UNIT * answer.refusal as u64;
+    }
+    answer.count as u64 + NEXT_UNIT * answer.next as u64 + SCAN_REFUSAL_UNIT * answer.refusal as u64
 }

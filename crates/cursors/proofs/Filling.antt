@@ -1,0 +1,37 @@
+-- Lists whose elements are set one after the other, from the first on.
+use mathlib.Core.Path.{_≡_, refl, ap, _∙_}
+use mathlib.Core.List.{List}
+use Prim.Native.Nat.{ℕ, suc, _<_, _≤_}
+use native.Mathlib.Omega.{arith}
+use borrow.Author.Tests.{eqb-true, eqb-false}
+use lib.Dec.{eqb}
+use lib.ListN.{length, getD, set, length-set}
+use lib.Seq.{getD-set-same, getD-set-other}
+use Rattle.lists.proofs.Bools.{by-cases}
+
+-- The elements before i have the values given, and the others are as they were.
+pub record Filled (value : ℕ → ℕ) (i : ℕ) (old new : List ℕ) : Type 0 where
+  pub same-length : length new ≡ length old
+  pub before : (j : ℕ) → j < i → getD new j 0 ≡ value j
+  pub others : (j : ℕ) → i ≤ j → getD new j 0 ≡ getD old j 0
+
+module _ (value : ℕ → ℕ) where
+  pub fill-none : (old : List ℕ) (i : ℕ) → i ≡ 0 → Filled value i old old
+  fill-none old i z = record { same-length = refl; before = λ j lt. absurd (omega arith); others = λ j le. refl }
+
+  pub fill-next : (i n : ℕ) (old new next : List ℕ) → n ≡ suc i → i < length old → next ≡ set new i (value i)
+      → Filled value i old new → Filled value n old next
+  fill-next i n old new next n≡ lt is f = rw (is, n≡) (record {
+    same-length = length-set new i (value i) ∙ f .same-length;
+    before = λ j below. by-cases (eqb j i)
+        (λ p. rw (eqb-true j i p) (getD-set-same new i (value i) 0 (omega (arith, f .same-length))))
+        (λ p. getD-set-other new i j (value i) 0 (eqb-false j i p) ∙ f .before j (omega (arith, eqb-false j i p)));
+    others = λ j from. getD-set-other new i j (value i) 0 (λ q. omega arith) ∙ f .others j (omega arith);
+  })
+
+-- Each value is given by the element that it takes the place of.
+module _ (front : ℕ → ℕ) (i n : ℕ) (old new next : List ℕ) where
+  pub fill-on : n ≡ suc i → i < length old → next ≡ set new i (front (getD new i 0))
+      → Filled (λ j. front (getD old j 0)) i old new → Filled (λ j. front (getD old j 0)) n old next
+  fill-on n≡ lt is f =
+      fill-next (λ j. front (getD old j 0)) i n old new next n≡ lt (is ∙ ap (λ (x : ℕ). set new i (front x)) (f .others i (omega arith))) f

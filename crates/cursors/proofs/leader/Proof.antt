@@ -1,0 +1,88 @@
+-- `cursors::leader` meets its contract. The loop's invariant: what is carried is known of the levels before i.
+use mathlib.Core.Path.{refl}
+use Prim.Native.Nat.{_-_, _≤_}
+use native.Mathlib.Omega.{arith}
+use Rattle.cursors.proofs.Leading.{Led, led-first, led-on, led-leads}
+use Rattle.cursors.proofs.leader.Statement.{statement}
+use Rattle.cursors.proofs.leader.Tie as tie
+
+abbrev Inv-loop : tie.InvT-loop
+Inv-loop e points ranges levels m₀ i₀ m i = (i ≤ levels) × Led e points ranges i m
+
+abbrev μ-loop : tie.MeasureT-loop
+μ-loop e points ranges levels m₀ i₀ m i = levels - i
+
+shared-slice-read-key-at : tie.Need-shared-slice-read-key-at Inv-loop μ-loop
+shared-slice-read-key-at c = omega (arith, c .before .before .before .before .pre .0 .point-room)
+
+key-at-requires : tie.Need-key-at-requires Inv-loop μ-loop
+key-at-requires c κs = let pre = c .before .before .before .before .pre in pre .0 .point-order 0 (pre .1)
+
+shared-slice-read-key-at-2 : tie.Need-shared-slice-read-key-at-2 Inv-loop μ-loop
+shared-slice-read-key-at-2 c = omega (arith, c .before .before .before .before .before .before .pre .0 .range-room)
+
+key-at-requires-2 : tie.Need-key-at-requires-2 Inv-loop μ-loop
+key-at-requires-2 c κs = let pre = c .before .before .before .before .before .before .pre in pre .0 .range-order 0 (pre .1)
+
+loop-holds : tie.Need-loop-holds Inv-loop μ-loop
+loop-holds c = (omega arith, led-first _ _ _ _ _ refl refl (c .before .before .key-at .ensures) (c .key-at2 .ensures))
+
+mul-key-at : tie.Need-mul-key-at Inv-loop μ-loop
+mul-key-at c = omega arith
+
+shared-slice-read-key-at-3 : tie.Need-shared-slice-read-key-at-3 Inv-loop μ-loop
+shared-slice-read-key-at-3 c = omega (arith, c .before .before .before .before .before .before .before .before .before .before .pre .0 .point-room)
+
+key-at-requires-3 : tie.Need-key-at-requires-3 Inv-loop μ-loop
+key-at-requires-3 c κs = c .before .before .before .before .before .before .before .before .before .before .pre .0 .point-order _ (c .before .loop-test .taken)
+
+mul-key-at-2 : tie.Need-mul-key-at-2 Inv-loop μ-loop
+mul-key-at-2 c = omega arith
+
+shared-slice-read-key-at-4 : tie.Need-shared-slice-read-key-at-4 Inv-loop μ-loop
+shared-slice-read-key-at-4 c = omega (arith, c .before .before .before .before .before .before .before .before .before .before .before .before .pre .0 .range-room)
+
+key-at-requires-4 : tie.Need-key-at-requires-4 Inv-loop μ-loop
+key-at-requires-4 c κs = c .before .before .before .before .before .before .before .before .before .before .before .before .pre .0 .range-order _ (c .before .before .before .loop-test .taken)
+
+lead-next-requires : tie.Need-lead-next-requires Inv-loop μ-loop
+lead-next-requires c κs = tt
+
+add-i : tie.Need-add-i Inv-loop μ-loop
+add-i c = omega arith
+
+loop-less : tie.Need-loop-less Inv-loop μ-loop
+loop-less c = omega arith
+
+loop-again : tie.Need-loop-again Inv-loop μ-loop
+loop-again c = (
+  omega arith,
+  led-on _ _ _ _ _ (c .before .before .before .before .before .before .loop .inv .1) _ _ _ _ (omega arith) (c .before .before .before .key-at3 .ensures) (c .before .key-at4 .ensures)
+      (c .lead-next .ensures),
+)
+
+returns : tie.Need-returns Inv-loop μ-loop
+returns c = led-leads _ _ _ _ _ (c .before .loop .inv .1) _ _ (omega arith) refl refl
+
+pub leader-spec : {M : Type 1} → statement M
+leader-spec =
+    tie.close
+    (tie.spec
+    Inv-loop
+    μ-loop
+    shared-slice-read-key-at
+    key-at-requires
+    shared-slice-read-key-at-2
+    key-at-requires-2
+    loop-holds
+    mul-key-at
+    shared-slice-read-key-at-3
+    key-at-requires-3
+    mul-key-at-2
+    shared-slice-read-key-at-4
+    key-at-requires-4
+    lead-next-requires
+    add-i
+    loop-less
+    loop-again
+    returns)

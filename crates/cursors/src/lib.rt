@@ -1,0 +1,152 @@
+// Cursors in the levels of the two tables: for each level the first point and the first range that are still to come.
+use covers::seek;
+use covers::skip;
+use lookup::Decided;
+use lookup::look_chains;
+use rows::lo_of;
+ghost use mathlib.Core.Path.{_≡_};
+ghost use Prim.Native.Nat.{_+_, _*_, _<_, _≤_, min};
+ghost use lib.ListN.{length, getD, set};
+ghost use Rattle.model.specs.Lookup.{absent, lookup};
+ghost use Rattle.tables.specs.Words.{settings-of};
+ghost use Rattle.tables.specs.Sound.{chain-from};
+ghost use Rattle.covers.specs.Walks.{Ordered};
+ghost use Rattle.covers.specs.Skips.{first-slot, beginning, reaching};
+ghost use Rattle.lookup.specs.Answers.{settle};
+ghost use Rattle.cursors.specs.Cursors.{coming, first-lo, led, Ready, Opened, Passed, Leads};
+
+// Past the last docket: no record is left.
+const NO_KEY: u32 = 65536;
+
+// A level that has the least key to come, and the docket before which it is alone.
+pub struct Alone {
+    pub level: usize,
+    pub bound: u32,
+}
+
+// The same while the levels are gone through: also the least key so far, and where the first of the ranges so far begins.
+struct Lead {
+    level: usize,
+    least: u32,
+    bound: u32,
+    above: u32,
+}
+
+// Sets the cursors to the beginning of each level.
+pub fn open(l: &[u32], points: &mut [usize], ranges: &mut [usize])
+    requires { ⌜ length (now l) ≡ 4 * (settings-of (now l) .deepest + 2) ⌝ }
+    requires { ⌜ settings-of (now l) .deepest < length (now points) ⌝ }
+    requires { ⌜ settings-of (now l) .deepest < length (now ranges) ⌝ }
+    ensures { λ _. ⌜ Opened (now (l .entry)) (now (points .exit)) (now (ranges .exit)) ⌝ }
+{
+    let levels = l[0] as usize + 1;
+    let mut i = 0;
+    while i < levels {
+        points[i] = l[4 * (i + 1)] as usize;
+        ranges[i] = l[4 * (i + 1) + 1] as usize;
+        i += 1;
+    }
+}
+
+// Looks a docket up in what is to come.
+pub fn look(e: &[u32], points: &[usize], ranges: &[usize], levels: usize, docket: u32) -> Decided
+    requires { ⌜ Ready (now e) (now points) (now ranges) levels ⌝ }
+    ensures { λ r. ⌜ settle r absent ≡ lookup (coming (now (e .entry)) (now (points .entry)) (now (ranges .entry)) levels) docket ⌝ }
+{
+    let mut i = 0;
+    while i < levels {
+        match look_chains(e, points[i], ranges[i], docket) {
+            Decided::Value(value, stamp) => return Decided::Value(value, stamp),
+            Decided::Absent => return Decided::Absent,
+            Decided::Deeper => i += 1,
+        }
+    }
+    Decided::Deeper
+}
+
+// Passes the points that begin, and the ranges that end, before a docket, in each level.
+pub fn pass(e: &[u32], points: &mut [usize], ranges: &mut [usize], levels: usize, docket: u32)
+    requires { ⌜ Ready (now e) (now points) (now ranges) levels ⌝ }
+    requires { ⌜ docket ≤ 65536 ⌝ }
+    ensures { λ _. ⌜ Passed (now (e .entry)) docket (now (points .entry)) (now (ranges .entry)) (now (points .exit)) (now (ranges .exit)) levels ⌝ }
+{
+    let mut i = 0;
+    while i < levels {
+        pass_level(e, points, ranges, i, docket);
+        i += 1;
+    }
+}
+
+// The same in one level.
+fn pass_level(e: &[u32], points: &mut [usize], ranges: &mut [usize], i: usize, docket: u32)
+    requires { ⌜ (i < length (now points)) × (i < length (now ranges)) ⌝ }
+    requires { ⌜ Ordered (now e) (getD (now points) i 0) ⌝ }
+    requires { ⌜ Ordered (now e) (getD (now ranges) i 0) ⌝ }
+    ensures { λ _. ⌜ now (points .exit) ≡ set (now (points .entry)) i (first-slot (beginning (now (e .entry)) docket (chain-from (now (e .entry)) (getD (now (points .entry)) i 0)))) ⌝ }
+    ensures { λ _. ⌜ now (ranges .exit) ≡ set (now (ranges .entry)) i (first-slot (reaching (now (e .entry)) docket (chain-from (now (e .entry)) (getD (now (ranges .entry)) i 0)))) ⌝ }
+{
+    points[i] = seek(e, points[i], docket);
+    ranges[i] = skip(e, ranges[i], docket);
+}
+
+// Where the first record of a chain begins.
+pub fn key_at(e: &[u32], slot: usize) -> u32
+    requires { ⌜ Ordered (now e) slot ⌝ }
+    ensures { λ r. ⌜ r ≡ first-lo (now (e .entry)) (chain-from (now (e .entry)) slot) ⌝ }
+{
+    if slot == 0 {
+        return NO_KEY;
+    }
+    lo_of(e, slot)
+}
+
+// Finds a level with the least key to come.
+pub fn leader(e: &[u32], points: &[usize], ranges: &[usize], levels: usize) -> Alone
+    requires { ⌜ Ready (now e) (now points) (now ranges) levels ⌝ }
+    requires { ⌜ 0 < levels ⌝ }
+    ensures { λ r. ⌜ Leads (now (e .entry)) (now (points .entry)) (now (ranges .entry)) levels r ⌝ }
+{
+    let mut m = Lead {
+        level: 0,
+        least: key_at(e, points[0]),
+        bound: NO_KEY,
+        above: key_at(e, ranges[0]),
+    };
+    let mut i = 1;
+    while i < levels {
+        m = lead_next(m, i, key_at(e, points[i]), key_at(e, ranges[i]));
+        i += 1;
+    }
+    Alone {
+        level: m.level,
+        bound: m.bound,
+    }
+}
+
+// Goes on to level i, whose first point and first range begin here: the least key is its own, or it is not alone past that.
+fn lead_next(m: Lead, i: usize, point: u32, range: u32) -> Lead
+    ensures { λ r. ⌜ r ≡ led m i point range ⌝ }
+{
+    let above = lesser(m.above, range);
+    if point < m.least {
+        return Lead {
+            level: i,
+            least: point,
+            bound: lesser(m.least, m.above),
+            above: above,
+        };
+    }
+    Lead {
+        level: m.level,
+        least: m.least,
+        bound: lesser(m.bound, point),
+        above: above,
+    }
+}
+
+// The lesser of two numbers.
+fn lesser(a: u32, b: u32) -> u32
+    ensures { λ r. ⌜ r ≡ min a b ⌝ }
+{
+    if a < b { a } else { b }
+}

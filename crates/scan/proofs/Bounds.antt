@@ -1,0 +1,74 @@
+-- How large the numbers of a scan's answer can be: as many rows as there are dockets, a docket, and the last refusal.
+use mathlib.Core.Path.{_≡_}
+use mathlib.Core.Bool.{Bool, true, false, cond, _||_}
+use mathlib.Core.List.{List, [], _∷_}
+use Prim.Native.Nat.{ℕ, zero, suc, _-_, _<_, _≤_}
+use native.Mathlib.Omega.{arith}
+use lib.Dec.{eqb, ltb}
+use lib.ListN.{length, drop, length-take}
+use borrow.Author.Tests.{eqb-true}
+use Rattle.lists.specs.All.{All}
+use Rattle.lists.proofs.Bools.{by-cases}
+use Rattle.lists.proofs.Tests.{all-weaken}
+use Rattle.model.specs.Lookup as model
+use Rattle.model.specs.Lookup.{Found, absent, found, add-row, live-from, live, first-key}
+use Rattle.model.proofs.Scans.{live-listed}
+use Rattle.tables.specs.Sound.{chains-sound, entries-fit, levels-fit, table-refusal}
+use Rattle.tables.specs.Placed.{read-state}
+use Rattle.scan.specs.declared.Row.{Row}
+use Rattle.scan.specs.Scan.{scan-refusal, scan-tables}
+use Rattle.scan.proofs.Refusals.{allowed-high, allowed-order}
+
+module _ {A : Type 0} where
+  added-length : (k : ℕ) (v : Found A) (rs : List (model.Row A)) → length (add-row k v rs) ≤ suc (length rs)
+  added-length k absent rs = omega arith
+  added-length k (found a t) rs = omega arith
+
+  first-key-low : (m : ℕ) → 0 < m → (i : ℕ) (rs : List (model.Row A)) → All (λ (r : model.Row A). r .key < m) rs → first-key (drop i rs) < m
+  first-key-low m h zero [] a = h
+  first-key-low m h (suc i) [] a = h
+  first-key-low m h zero (r ∷ rs) a = a .0
+  first-key-low m h (suc i) (r ∷ rs) a = first-key-low m h i rs (a .1)
+
+  module _ (look : ℕ → Found A) where
+    live-from-few : (n k : ℕ) → length (live-from look k n) ≤ n
+    unfolding live-from
+    live-from-few zero k = omega arith
+    live-from-few (suc n) k = omega (arith, added-length k (look k) (live-from look (suc k) n), live-from-few n (suc k))
+
+    module _ (lo hi room : ℕ) where
+      count-low : model.scan look lo hi room .count ≤ suc hi
+      unfolding model.scan
+      count-low = omega (arith, length-take room (live look lo hi), live-from-few (suc hi - lo) lo)
+
+      next-low : lo ≤ hi → model.scan look lo hi room .next < suc hi
+      unfolding model.scan
+      next-low order = first-key-low (suc hi) (omega arith) room (live look lo hi) (all-weaken _ _ (λ r l. l .high) (live look lo hi) (live-listed look lo hi order))
+
+tables-low : (e l : List ℕ) → table-refusal e l ≤ 3
+unfolding table-refusal
+tables-low e l = go (entries-fit e) (levels-fit l) (chains-sound e l)
+  where
+    go : (a b c : Bool) → cond a (cond b (cond c 0 3) 2) 1 ≤ 3
+    go true true true = omega arith
+    go true true false = omega arith
+    go true false c = omega arith
+    go false b c = omega arith
+
+refusal-low : (e l : List ℕ) (lo hi : ℕ) → scan-refusal e l lo hi ≤ 4
+refusal-low e l lo hi = go (eqb (table-refusal e l) 0) (ltb 65535 hi || ltb hi lo) (table-refusal e l) (tables-low e l)
+  where
+    go : (a b : Bool) (r : ℕ) → r ≤ 3 → cond a (cond b 4 0) r ≤ 4
+    go true true r h = omega arith
+    go true false r h = omega arith
+    go false b r h = omega arith
+
+pub answer-low : (e l : List ℕ) (lo hi : ℕ) (rows : List Row) → (scan-tables e l lo hi rows .answer .count ≤ 65536) × (scan-tables e l lo hi rows .answer .next ≤ 65535) × (scan-tables e l lo hi rows .answer .refusal ≤ 4)
+unfolding scan-tables
+answer-low e l lo hi rows = by-cases (eqb (scan-refusal e l lo hi) 0)
+    (λ p.
+    let z : scan-refusal e l lo hi ≡ 0 = eqb-true (scan-refusal e l lo hi) 0 p in
+    let high : hi ≤ 65535 = allowed-high e l lo hi z in
+    let look : ℕ → Found ℕ = model.lookup (read-state e l .levels) in
+    rw p (omega (arith, count-low look lo hi (length rows)), omega (arith, next-low look lo hi (length rows) (allowed-order e l lo hi z)), omega arith))
+    (λ p. rw p (omega arith, omega arith, refusal-low e l lo hi))

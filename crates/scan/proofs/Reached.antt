@@ -1,0 +1,118 @@
+-- Where a scan stands after i rows, from its opening to its answer.
+use mathlib.Core.Path.{_≡_, refl, sym, ap, _∙_}
+use mathlib.Core.Bool.{Bool, true, false, cond}
+use mathlib.Core.List.{List, [], _∷_}
+use Prim.Native.Nat.{ℕ, suc, _-_, _<_, _≤_}
+use native.Mathlib.Omega.{arith}
+use lib.Dec.{eqb, ltb}
+use lib.ListN.{length, take, drop, set, length-take, drop-of-length-le}
+use borrow.Author.Tests.{eqb-true, lt-ltb, le-ltb, ltb-true, ltb-false}
+use Rattle.lists.proofs.Bools.{by-cases, both-false, and-left, and-right, and-second-false}
+use Rattle.model.specs.Lookup as model
+use Rattle.tables.specs.Placed.{read-state}
+use Rattle.sweep.specs.declared.Sweep.{Sweep}
+use Rattle.scan.specs.declared.Row.{Row}
+use Rattle.scan.specs.declared.Scanned.{Scanned}
+use Rattle.sweep.specs.Sweeps.{Sweeping, rest, row-found, rows-from}
+use Rattle.scan.specs.Scan.{Outcome, written, filled, scan-refusal, scan-tables, Opened, row-at, has-row, closed}
+use Rattle.scan.proofs.Filling.{so-far, length-so-far, set-so-far, drop-inside, drop-none, drop-next, take-over}
+
+-- The rows of the live dockets from lo to hi.
+abbrev pub live-rows : List ℕ → List ℕ → ℕ → ℕ → List (model.Row ℕ)
+live-rows e l lo hi = model.live (model.lookup (read-state e l .levels)) lo hi
+
+-- After i rows the sweep m has come to the next live docket. Where the scan is refused there is none, and no row is filled.
+pub record Reached (e l : List ℕ) (lo hi : ℕ) (ys : List Row) (i : ℕ) (m : Sweep) : Type 0 where
+  pub refused : (eqb (scan-refusal e l lo hi) 0 ≡ false) → (m .live ≡ false) × (i ≡ 0)
+  pub sweeping : (eqb (scan-refusal e l lo hi) 0 ≡ true) → Sweeping e m
+  pub left : (eqb (scan-refusal e l lo hi) 0 ≡ true) → drop i (live-rows e l lo hi) ≡ rows-from e m
+  pub inside : i ≤ length (live-rows e l lo hi)
+  pub room : i ≤ length ys
+
+pub begun : (e l : List ℕ) (lo hi : ℕ) (ys : List Row) (m : Sweep) → Opened e l lo hi m → Reached e l lo hi ys 0 m
+begun e l lo hi ys m o = record {
+  refused = λ h. (o .refused h, refl);
+  sweeping = o .sweeping;
+  left = λ h. sym (o .rows h);
+  inside = omega arith;
+  room = omega arith;
+}
+
+module _ (e l : List ℕ) (lo hi : ℕ) (ys : List Row) (i : ℕ) (m : Sweep) (h : Reached e l lo hi ys i m) where
+  abbrev all : List (model.Row ℕ)
+  all = live-rows e l lo hi
+
+  -- The caller's rows after i rows.
+  abbrev rows : List Row
+  rows = so-far written all ys i
+
+  pub kept-length : length rows ≡ length ys
+  kept-length = length-so-far written all ys i (h .inside) (h .room)
+
+  -- A turn: the docket is live and has a row.
+  module _ (t : has-row m i (length ys) ≡ true) where
+    is-live : m .live ≡ true
+    is-live = and-left (m .live) (ltb i (length ys)) t
+
+    pub has-room : i < length ys
+    has-room = ltb-true i (length ys) (and-right (m .live) (ltb i (length ys)) t)
+
+    accepted : eqb (scan-refusal e l lo hi) 0 ≡ true
+    accepted = by-cases (eqb (scan-refusal e l lo hi) 0) (λ p. p) (λ p. both-false is-live (h .refused p .0))
+
+    pub goes-sweeping : Sweeping e m
+    goes-sweeping = h .sweeping accepted
+
+    coming-rows : drop i all ≡ row-found m ∷ rest e m
+    coming-rows = h .left accepted ∙ ap (λ (b : Bool). cond b (row-found m ∷ rest e m) []) is-live
+
+    pub stored : set rows i (row-at m) ≡ so-far written all ys (suc i)
+    stored = set-so-far written all ys i (row-found m) (rest e m) coming-rows has-room
+
+    pub turned : (m′ : Sweep) → Sweeping e m′ → rows-from e m′ ≡ rest e m → Reached e l lo hi ys (suc i) m′
+    turned m′ s q = record {
+      refused = λ p. both-false accepted p;
+      sweeping = λ _. s;
+      left = λ _. drop-next all i (row-found m) (rest e m) coming-rows ∙ sym q;
+      inside = drop-inside all i (row-found m) (rest e m) coming-rows;
+      room = has-room;
+    }
+
+  -- The end: no docket is live, or no row is left.
+  module _ (t : has-row m i (length ys) ≡ false) where
+    abbrev Filled : Scanned → Type 0
+    Filled a = _≡_ {A = Outcome} (record { answer = a; rows = rows }) (filled (model.scan (model.lookup (read-state e l .levels)) lo hi (length ys)) ys)
+
+    counted : length (take i all) ≡ i
+    counted = omega (arith, length-take i all, h .inside)
+
+    same : take (length ys) all ≡ take i all → ltb (length ys) (length all) ≡ m .live → model.first-key (drop (length ys) all) ≡ cond (m .live) (m .key) 0 → Filled (closed m i 0)
+    unfolding model.scan
+    same p q s = rw (p, q, s, counted)
+
+    module _ (accept : eqb (scan-refusal e l lo hi) 0 ≡ true) where
+      -- A live docket found no row.
+      ended-more : m .live ≡ true → Filled (closed m i 0)
+      ended-more live =
+          let full : i ≡ length ys = omega (arith, h .room, ltb-false i (length ys) (and-second-false (m .live) (ltb i (length ys)) t live)) in
+          let coming : drop i all ≡ row-found m ∷ rest e m = h .left accept ∙ ap (λ (b : Bool). cond b (row-found m ∷ rest e m) []) live in
+          same (ap (λ (k : ℕ). take k all) (sym full))
+          (lt-ltb (length ys) (length all) (omega (arith, drop-inside all i (row-found m) (rest e m) coming)) ∙ sym live)
+          (ap (λ (k : ℕ). model.first-key (drop k all)) (sym full) ∙ ap model.first-key coming ∙ sym (ap (λ (b : Bool). cond b (m .key) 0) live))
+
+      -- Every live docket has a row.
+      ended-last : m .live ≡ false → Filled (closed m i 0)
+      ended-last none =
+          let over : length all ≤ i = drop-none all i (h .left accept ∙ ap (λ (b : Bool). cond b (row-found m ∷ rest e m) []) none) in
+          same (take-over all (length ys) (omega (arith, h .room)) ∙ sym (take-over all i over))
+          (le-ltb (length ys) (length all) (omega (arith, h .room)) ∙ sym none)
+          (ap model.first-key (drop-of-length-le all {i = length ys} (omega (arith, h .room))) ∙ sym (ap (λ (b : Bool). cond b (m .key) 0) none))
+
+      ended-accepted : Filled (closed m i 0)
+      ended-accepted = by-cases (m .live) ended-more ended-last
+
+    pub ended : (r : ℕ) → r ≡ scan-refusal e l lo hi → _≡_ {A = Outcome} (record { answer = closed m i r; rows = rows }) (scan-tables e l lo hi ys)
+    unfolding scan-tables
+    ended r is = by-cases (eqb (scan-refusal e l lo hi) 0)
+        (λ p. rw (is, p, eqb-true (scan-refusal e l lo hi) 0 p) (ended-accepted p))
+        (λ p. rw (is, p, h .refused p .0, h .refused p .1) refl)

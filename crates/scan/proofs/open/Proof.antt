@@ -1,0 +1,24 @@
+-- `scan::open` meets its contract: tables of which no scan is refused are readable.
+use mathlib.Core.Path.{sym, _∙_}
+use borrow.Author.Needs.{needs}
+use Rattle.scan.proofs.Refusals.{allowed-readable, allowed-order, allowed-high, opened, unopened}
+use Rattle.scan.proofs.open.Statement.{statement}
+use Rattle.scan.proofs.open.Tie as tie
+
+begin-requires : tie.Need-begin-requires
+begin-requires c κs =
+    let d = c .before .before .before in
+    let none = sym (d .pre) ∙ c .if1 .taken in
+    (allowed-readable _ _ (d .args .lo) (d .args .hi) none, (allowed-order _ _ (d .args .lo) (d .args .hi) none, allowed-high _ _ (d .args .lo) (d .args .hi) none))
+
+returns : tie.Need-returns
+returns c = opened _ _ _ _ _ (c .before .before .before .before .pre) _ (c .before .if1 .taken) (c .begin .ensures .0) (c .begin .ensures .1)
+
+ended-requires : tie.Need-ended-requires
+ended-requires c κs = search needs
+
+returns-2 : tie.Need-returns-2
+returns-2 c = unopened _ _ _ _ _ (c .before .before .before .before .pre) _ (c .before .if1 .left) (c .ended .ensures)
+
+pub open-spec : {M : Type 1} → statement M
+open-spec = tie.close (tie.spec begin-requires returns ended-requires returns-2)

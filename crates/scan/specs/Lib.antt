@@ -1,0 +1,2 @@
+-- What a scan answers, and the rows that it leaves.
+pub mod Scan

@@ -1,0 +1,110 @@
+// Scan: the live dockets from lo to hi, written into the caller's rows.
+use soundness::table_refusal;
+use sweep::Sweep;
+use sweep::advance;
+use sweep::begin;
+use sweep::ended;
+ghost use mathlib.Core.Path.{_≡_};
+ghost use Rattle.scan.specs.Scan.{Opened, row-at, has-row, closed, scan-refusal, scan-tables};
+
+// The refusal of dockets that there are none of.
+const OUT_OF_RANGE: u32 = 4;
+
+const LAST_DOCKET: u32 = 65535;
+
+// A live docket, its tally and its stamp.
+#[repr(C)]
+pub struct Row {
+    pub docket: u32,
+    pub tally: u32,
+    pub stamp: u32,
+}
+
+// What a scan answers: the number of its refusal or 0, how many rows it filled, whether there are more live dockets, and the next one.
+pub struct Scanned {
+    pub refusal: u32,
+    pub count: usize,
+    pub more: bool,
+    pub next: u32,
+}
+
+// Fills the rows with the live dockets from lo to hi, ascending. It decides nothing, since its proof is by hand: each row comes from a step that is covered.
+pub fn scan(entries: &[u32], levels: &[u32], lo: u32, hi: u32, rows: &mut [Row]) -> Scanned
+    ensures { λ r. ⌜ record { answer = r; rows = now (rows .exit) } ≡ scan-tables (now (entries .entry)) (now (levels .entry)) lo hi (now (rows .entry)) ⌝ }
+{
+    let refusal = refusal_of(entries, levels, lo, hi);
+    let mut m = open(entries, levels, lo, hi, refusal);
+    let mut i = 0;
+    while goes_on(m, i, rows.len()) {
+        rows[i] = row_of(m);
+        m = advance(entries, m);
+        i += 1;
+    }
+    close(m, i, refusal)
+}
+
+// Why the scan is refused, or 0.
+fn refusal_of(entries: &[u32], levels: &[u32], lo: u32, hi: u32) -> u32
+    ensures { λ r. ⌜ r ≡ scan-refusal (now (entries .entry)) (now (levels .entry)) lo hi ⌝ }
+{
+    let refusal = table_refusal(entries, levels);
+    if refusal != 0 {
+        return refusal;
+    }
+    if LAST_DOCKET < hi {
+        return OUT_OF_RANGE;
+    }
+    if hi < lo {
+        return OUT_OF_RANGE;
+    }
+    0
+}
+
+// Comes to the first live docket, or to none where the scan is refused.
+fn open(entries: &[u32], levels: &[u32], lo: u32, hi: u32, refusal: u32) -> Sweep
+    requires { ⌜ refusal ≡ scan-refusal (now entries) (now levels) lo hi ⌝ }
+    ensures { λ r. ⌜ Opened (now (entries .entry)) (now (levels .entry)) lo hi r ⌝ }
+{
+    if refusal == 0 {
+        return begin(entries, levels, lo, hi);
+    }
+    ended()
+}
+
+// Whether there is a live docket and a row for it.
+fn goes_on(m: Sweep, filled: usize, rows: usize) -> bool
+    ensures { λ r. ⌜ r ≡ has-row m filled rows ⌝ }
+{
+    m.live && filled < rows
+}
+
+// The row of the live docket that the sweep has come to.
+fn row_of(m: Sweep) -> Row
+    ensures { λ r. ⌜ r ≡ row-at m ⌝ }
+{
+    Row {
+        docket: m.key,
+        tally: m.value,
+        stamp: m.stamp,
+    }
+}
+
+// The answer: a live docket that found no row is the next.
+fn close(m: Sweep, count: usize, refusal: u32) -> Scanned
+    ensures { λ r. ⌜ r ≡ closed m count refusal ⌝ }
+{
+    if m.live {
+        return Scanned {
+            refusal: refusal,
+            count: count,
+            more: true,
+            next: m.key,
+        };
+    }
+    Scanned {
+        refusal: refusal,
+        count: count,
+        more: false,
+        next: 0,
+    }
+}

@@ -1,0 +1,138 @@
+-- What passing the least docket to come, or finding none up to hi, says of a sweep.
+use mathlib.Core.Path.{_≡_, sym, _∙_}
+use mathlib.Core.Bool.{true, false, cond, false≢true}
+use mathlib.Core.List.{List}
+use Prim.Native.Nat.{ℕ, zero, suc, _+_, _<_, _≤_, min}
+use native.Mathlib.Omega.{arith}
+use native.Mathlib.Decide.{ℕ-discrete}
+use lib.ListN.{getD}
+use Rattle.lists.proofs.Bools.{cond-elim, both-false}
+use Rattle.model.specs.Lookup.{Row, absent, found, add-row, lookup}
+use Rattle.covers.proofs.Chains.{Words}
+use Rattle.sweep.specs.declared.Sweep.{Sweep}
+use Rattle.cursors.specs.Cursors.{coming, next-lo, least-lo, Ready}
+use Rattle.sweep.specs.Sweeps.{heads, to-come, Sweeping, Stepped, rest, rows-from, ahead}
+use Rattle.sweep.proofs.Heads.{Chosen}
+use Rattle.sweep.proofs.Live.{live-none, live-pass}
+use Rattle.sweep.proofs.Coming.{points-before, absent-all}
+
+-- The least key to come is no later than each, and no earlier than what is no later than each.
+module _ (e cursors : List ℕ) where
+  least-below : (n i : ℕ) → i < n → least-lo e cursors n ≤ next-lo e cursors i
+  unfolding least-lo
+  least-below zero i lt = absurd (omega arith)
+  least-below (suc n) i lt = go (ℕ-discrete i n) (least-below n i)
+    where
+      go : Dec (i ≡ n) → (i < n → least-lo e cursors n ≤ next-lo e cursors i)
+          → min (next-lo e cursors n) (least-lo e cursors n) ≤ next-lo e cursors i
+      go (yes q) ih = rw q (omega arith)
+      go (no q) ih = omega (arith, ih (omega arith))
+
+  least-above : (k : ℕ) → k ≤ 65536 → (n : ℕ) → ((i : ℕ) → i < n → k ≤ next-lo e cursors i) → k ≤ least-lo e cursors n
+  unfolding least-lo
+  least-above k le zero begins = le
+  least-above k le (suc n) begins = omega (arith, begins n (omega arith), least-above k le n (λ i lt. begins i (omega arith)))
+
+-- Nothing is to come before a docket that is no later than every key to come.
+pub none-before : (e points ranges : List ℕ) (n k : ℕ) → Words e → Ready e points ranges n → ((i : ℕ) → i < n → k ≤ next-lo e points i)
+    → (j : ℕ) → j < k → lookup (coming e points ranges n) j ≡ absent
+none-before e points ranges n k words ready begins j lt =
+    absent-all e points ranges j n 0
+    (λ i a b. points-before e words (getD points i 0) j (ready .point-order i (omega arith)) (omega (arith, begins i (omega arith))))
+
+-- The docket k is the least to come of m, and r has passed it.
+pub record Passing (e : List ℕ) (m r : Sweep) (k : ℕ) : Type 0 where
+  pub sweeping : Sweeping e r
+  pub same-levels : r .levels ≡ m .levels
+  pub same-last : r .hi ≡ m .hi
+  pub least : (i : ℕ) → i < m .levels → k ≤ next-lo e (heads m) i
+  pub begins : (i : ℕ) → i < m .levels → k + 1 ≤ next-lo e (heads r) i
+  pub looks : (j : ℕ) → k + 1 ≤ j → lookup (to-come e r) j ≡ lookup (to-come e m) j
+
+-- The sweep with no live docket left.
+abbrev stopped : Sweep → Sweep
+stopped m = record {
+  points = m .points;
+  ranges = m .ranges;
+  levels = m .levels;
+  level = m .level;
+  slot = m .slot;
+  bound = m .bound;
+  hi = m .hi;
+  going = false;
+  live = false;
+  key = m .key;
+  value = m .value;
+  stamp = m .stamp;
+}
+
+module _ {e : List ℕ} {m : Sweep} {k : ℕ} (words : Words e) (s : Sweeping e m) where
+  -- The least docket to come is past hi.
+  pub stepped-none : ((i : ℕ) → i < m .levels → k ≤ next-lo e (heads m) i) → m .hi < k → Stepped e m (stopped m)
+  stepped-none least past = record {
+    sweeping = record { ready = s .ready; inside = s .inside; others = s .others; above = s .above; last = s .last };
+    leads = live-none (lookup (to-come e m)) k (m .hi) (none-before e (heads m) (m .ranges) (m .levels) k words (s .ready) least) past;
+    fewer = λ g. absurd (false≢true g);
+  }
+
+  module _ {r : Sweep} (is : k ≡ next-lo e (heads m) (m .level)) (p : Passing e m r k) (le : k ≤ m .hi) where
+    -- The docket's row, and then what is to come of r.
+    rest-passed : rest e m ≡ add-row k (lookup (to-come e m) k) (rest e r)
+    rest-passed =
+        rw (p .same-last)
+        (live-pass (lookup (to-come e m)) k (m .hi)
+        (none-before e (heads m) (m .ranges) (m .levels) k words (s .ready) (p .least))
+        (lookup (to-come e r)) le
+        (none-before e (heads r) (r .ranges) (r .levels) (k + 1) words (p .sweeping .ready) (λ i lt. p .begins i (rw (p .same-levels) at lt)))
+        (p .looks))
+
+    fewer-ahead : ahead e r < ahead e m
+    fewer-ahead =
+        rw (p .same-levels)
+        (omega (
+          arith,
+          s .last,
+          least-below e (heads m) (m .levels) (m .level) (s .inside),
+          least-above e (heads r) (k + 1) (omega (arith, s .last)) (m .levels) (p .begins),
+        ))
+
+    -- It is not live, and the sweep goes on.
+    pub stepped-on : lookup (to-come e m) k ≡ absent → r .going ≡ true → Stepped e m r
+    stepped-on q goes = record {
+      sweeping = p .sweeping;
+      leads = rest-passed ∙ rw (q, goes);
+      fewer = λ g. fewer-ahead;
+    }
+
+    -- It is live, and its row is found.
+    pub stepped-found : lookup (to-come e m) k ≡ found (r .value) (r .stamp) → r .key ≡ k → r .going ≡ false → r .live ≡ true → Stepped e m r
+    stepped-found q found-at stops alive = record {
+      sweeping = p .sweeping;
+      leads = rest-passed ∙ rw (q, stops, alive, found-at);
+      fewer = λ g. both-false g stops;
+    }
+
+-- A step from the level that was chosen is a step.
+pub stepped-chosen : (e : List ℕ) (m c r : Sweep) → Chosen e m c → Stepped e c r → Stepped e m r
+stepped-chosen e m c r ch st = record {
+  sweeping = st .sweeping;
+  leads = rw (← ch .same-heads, ← ch .same-ranges, ← ch .same-levels, ← ch .same-last) (st .leads);
+  fewer = λ g. rw (← ch .same-heads, ← ch .same-levels) (st .fewer g);
+}
+
+-- What a sweep on its way has to come, and what one that has come to a docket lists.
+abbrev pub listed : List ℕ → Sweep → List (Row ℕ)
+listed e m = cond (m .going) (rest e m) (rows-from e m)
+
+-- How many more steps there may be.
+abbrev pub steps-left : List ℕ → Sweep → ℕ
+steps-left e m = cond (m .going) (suc (ahead e m)) 0
+
+module _ {e : List ℕ} {m r : Sweep} (st : Stepped e m r) (goes : m .going ≡ true) where
+  pub listed-same : listed e r ≡ listed e m
+  listed-same = rw goes (sym (st .leads))
+
+  pub fewer-steps : steps-left e r < steps-left e m
+  fewer-steps =
+      rw goes
+      (cond-elim (λ n. n < suc (ahead e m)) (r .going) (suc (ahead e r)) 0 (λ g. omega (arith, st .fewer g)) (λ g. omega arith))

@@ -1,0 +1,72 @@
+-- A step that asks all levels: the cursors that have passed the least docket to come.
+use mathlib.Core.Path.{_≡_, refl, _∙_}
+use mathlib.Core.Bool.{Bool, true, false}
+use mathlib.Core.List.{List}
+use Prim.Native.Nat.{ℕ, _+_, _<_, _≤_}
+use native.Mathlib.Omega.{arith}
+use lib.ListN.{getD}
+use lib.Seq.{set-getD}
+use Rattle.model.specs.Lookup.{absent, found, lookup}
+use Rattle.covers.proofs.Chains.{Words}
+use Rattle.lookup.specs.declared.Decided.{Decided}
+use Rattle.lookup.specs.Answers.{settle}
+use Rattle.sweep.specs.declared.Sweep.{Sweep}
+use Rattle.cursors.specs.Cursors.{coming, next-lo, Passed}
+use Rattle.sweep.specs.Sweeps.{heads, to-come, Sweeping, Foremost, Stepped}
+use Rattle.sweep.proofs.Steps.{Passing, stepped-on, stepped-found}
+
+-- The sweep with other cursors, and another state; no level is alone.
+abbrev regrouped : Sweep → List ℕ → List ℕ → Bool → Bool → ℕ → ℕ → ℕ → Sweep
+regrouped m points ranges going alive key value stamp = record {
+  points = points;
+  ranges = ranges;
+  levels = m .levels;
+  level = m .level;
+  slot = getD points (m .level) 0;
+  bound = 0;
+  hi = m .hi;
+  going = going;
+  live = alive;
+  key = key;
+  value = value;
+  stamp = stamp;
+}
+
+module _ {e : List ℕ} {m : Sweep} {k : ℕ} (s : Sweeping e m) (is : k ≡ next-lo e (heads m) (m .level)) (f : Foremost e m) where
+  pub together-least : (i : ℕ) → i < m .levels → k ≤ next-lo e (heads m) i
+  together-least i h = omega (arith, f .least i h)
+
+  module _ {points ranges : List ℕ} (p : Passed e (k + 1) (m .points) (m .ranges) points ranges (m .levels)) (words : Words e)
+      (le : k ≤ m .hi) where
+    passing : (going alive : Bool) (key value stamp : ℕ) → Passing e m (regrouped m points ranges going alive key value stamp) k
+    passing going alive key value stamp =
+        let same = set-getD points (m .level) 0 in
+        record {
+          sweeping = record {
+            ready = rw same (p .ready);
+            inside = s .inside;
+            others = λ i h n. omega arith;
+            above = λ i h. omega arith;
+            last = s .last;
+          };
+          same-levels = refl;
+          same-last = refl;
+          least = together-least;
+          begins = rw same (p .begins);
+          looks = rw (same, ← f .settled) (p .looks);
+        }
+
+    -- Asked of all levels, w is what they say: that the docket is not live, or that it is.
+    module _ (d w : Decided) (asked : settle d absent ≡ lookup (coming e (m .points) (m .ranges) (m .levels)) k) (says : d ≡ w) where
+      answer : lookup (to-come e m) k ≡ settle w absent
+      answer = rw (← f .settled, ← asked, says)
+
+      pub together-on : settle w absent ≡ absent → m .going ≡ true
+          → Stepped e m (regrouped m points ranges (m .going) (m .live) (m .key) (m .value) (m .stamp))
+      together-on q goes =
+          stepped-on words s is (passing (m .going) (m .live) (m .key) (m .value) (m .stamp)) le (answer ∙ q) goes
+
+      pub together-found : (value stamp : ℕ) → settle w absent ≡ found value stamp
+          → Stepped e m (regrouped m points ranges false true k value stamp)
+      together-found value stamp q =
+          stepped-found words s is (passing false true k value stamp) le (answer ∙ q) refl refl refl

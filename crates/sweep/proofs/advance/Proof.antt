@@ -1,0 +1,34 @@
+-- `sweep::advance` meets its contract. The loop's invariant: the sweep lists what it had to come.
+use mathlib.Core.Path.{_≡_, refl, _∙_}
+use Rattle.sweep.specs.Sweeps.{Sweeping, rest}
+use Rattle.sweep.proofs.Steps.{listed, steps-left, listed-same, fewer-steps}
+use Rattle.sweep.proofs.advance.Statement.{statement}
+use Rattle.sweep.proofs.advance.Tie as tie
+
+abbrev Inv-loop : tie.InvT-loop
+Inv-loop e r₀ r = Sweeping e r × (listed e r ≡ rest e r₀)
+
+abbrev μ-loop : tie.MeasureT-loop
+μ-loop e r₀ r = steps-left e r
+
+loop-holds : tie.Need-loop-holds Inv-loop μ-loop
+loop-holds c =
+    let s = c .before .pre in
+    (record { ready = s .ready; inside = s .inside; others = s .others; above = s .above; last = s .last }, refl)
+
+step-requires : tie.Need-step-requires Inv-loop μ-loop
+step-requires c κs = (c .before .loop .inv .0, c .loop-test .taken)
+
+loop-less : tie.Need-loop-less Inv-loop μ-loop
+loop-less c = fewer-steps (c .step .ensures) (c .before .loop-test .taken)
+
+loop-again : tie.Need-loop-again Inv-loop μ-loop
+loop-again c =
+    (c .step .ensures .sweeping, listed-same (c .step .ensures) (c .before .loop-test .taken) ∙ c .before .before .loop .inv .1)
+
+returns : tie.Need-returns Inv-loop μ-loop
+returns c = (c .before .loop .inv .0, rw (c .loop-test .left) at (c .before .loop .inv .1))
+
+pub advance-spec : {M : Type 1} → statement M
+advance-spec =
+    tie.close (tie.spec Inv-loop μ-loop loop-holds step-requires loop-less loop-again returns)

@@ -1,0 +1,80 @@
+-- `sweep::begin` meets its contract: the cursors, once they have passed what lies before lo, have to come what the tables read as from lo on.
+use mathlib.Core.Path.{_≡_, _∙_}
+use native.Mathlib.Omega.{arith}
+use borrow.Author.Needs.{needs}
+use lib.ListN.{length}
+use Rattle.sweep.proofs.Begins.{opened-ready, begun-sweeping, begun-rest}
+use Rattle.sweep.proofs.begin.Statement.{statement}
+use Rattle.sweep.proofs.begin.Tie as tie
+
+shared-slice-read-levels : tie.Need-shared-slice-read-levels
+shared-slice-read-levels c = search needs
+
+cast-levels : tie.Need-cast-levels
+cast-levels c = search needs
+
+add-levels : tie.Need-add-levels
+add-levels c = search needs
+
+slice-aggregate-open : tie.Need-slice-aggregate-open
+slice-aggregate-open c = search needs
+
+slice-aggregate-open-2 : tie.Need-slice-aggregate-open-2
+slice-aggregate-open-2 c = search needs
+
+open-requires : tie.Need-open-requires
+open-requires c κs = search needs
+
+slice-aggregate-pass : tie.Need-slice-aggregate-pass
+slice-aggregate-pass c = search needs
+
+slice-aggregate-pass-2 : tie.Need-slice-aggregate-pass-2
+slice-aggregate-pass-2 c = search needs
+
+pass-requires : tie.Need-pass-requires
+pass-requires c κs =
+    let o = c .before .before .before .before in
+    let p = o .before .before .before .before .before .before .pre in
+    let point-room : length (o .«open» .last .1 .0) ≡ 7 = search needs in
+    let range-room : length (o .«open» .last .1 .1 .0) ≡ 7 = search needs in (
+      opened-ready (p .0) (o .«open» .ensures) (omega (arith, p .0 .shallow)) (omega (arith, p .0 .shallow)),
+      omega (arith, p .1 .0, p .1 .1),
+    )
+
+array-read-slot : tie.Need-array-read-slot
+array-read-slot c = search needs
+
+advance-requires : tie.Need-advance-requires
+advance-requires c κs =
+    let a = c .before .before in
+    let o = a .before .before .before .before .before in
+    let p = o .before .before .before .before .before .before .pre in
+    begun-sweeping (p .0) (o .«open» .ensures) (a .pass .ensures) _ (p .1 .1)
+
+returns : tie.Need-returns
+returns c =
+    let a = c .before .before .before in
+    let o = a .before .before .before .before .before in
+    let k = o .before .before .before .before .before in
+    let p = k .before .pre in (
+      c .advance .ensures .0,
+      c .advance .ensures .1
+          ∙ begun-rest (p .0) (o .«open» .ensures) (a .pass .ensures) (λ i. k .shared-slice-known .given i .fits) _ (p .1 .0),
+    )
+
+pub begin-spec : {M : Type 1} → statement M
+begin-spec =
+    tie.close
+    (tie.spec
+    shared-slice-read-levels
+    cast-levels
+    add-levels
+    slice-aggregate-open
+    slice-aggregate-open-2
+    open-requires
+    slice-aggregate-pass
+    slice-aggregate-pass-2
+    pass-requires
+    array-read-slot
+    advance-requires
+    returns)

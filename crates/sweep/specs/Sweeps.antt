@@ -1,0 +1,53 @@
+-- A sweep over the levels: what it still has to come, and the rows of the live dockets among it.
+use mathlib.Core.Path.{_≡_}
+use mathlib.Core.Bool.{true, cond}
+use mathlib.Core.List.{List, [], _∷_}
+use Prim.Native.Nat.{ℕ, _-_, _<_, _≤_}
+use lib.ListN.{set}
+use Rattle.model.specs.Lookup.{Row, lookup, live}
+use Rattle.model.specs.Records.{Level}
+use Rattle.cursors.specs.Cursors.{coming, next-lo, least-lo, Ready}
+use Rattle.sweep.specs.declared.Sweep.{Sweep}
+
+-- The first point that each level still has to come; that of the level which goes on alone is the slot.
+abbrev pub heads : Sweep → List ℕ
+heads m = set (m .points) (m .level) (m .slot)
+
+-- What the levels still have to come.
+abbrev pub to-come : List ℕ → Sweep → List (Level ℕ ℕ)
+to-come e m = coming e (heads m) (m .ranges) (m .levels)
+
+-- The cursors can be followed; and before the bound no other level has a point, and no level above the slot's a range.
+pub record Sweeping (e : List ℕ) (m : Sweep) : Type 0 where
+  pub ready : Ready e (heads m) (m .ranges) (m .levels)
+  pub inside : m .level < m .levels
+  pub others : (i : ℕ) → i < m .levels → (i ≡ m .level → ⊥) → m .bound ≤ next-lo e (heads m) i
+  pub above : (i : ℕ) → i < m .level → m .bound ≤ next-lo e (m .ranges) i
+  pub last : m .hi ≤ 65535
+
+-- The slot's key is the least to come, and the slot stands in its place among the cursors.
+pub record Foremost (e : List ℕ) (m : Sweep) : Type 0 where
+  pub settled : m .points ≡ heads m
+  pub least : (i : ℕ) → i < m .levels → next-lo e (heads m) (m .level) ≤ next-lo e (heads m) i
+
+-- The rows of the live dockets that are still to come, up to hi.
+abbrev pub rest : List ℕ → Sweep → List (Row ℕ)
+rest e m = live (lookup (to-come e m)) 0 (m .hi)
+
+-- The live docket that the sweep has come to.
+abbrev pub row-found : Sweep → Row ℕ
+row-found m = record { key = m .key; tally = m .value; stamp = m .stamp }
+
+-- It and those that are still to come; none where the sweep came to no live docket.
+abbrev pub rows-from : List ℕ → Sweep → List (Row ℕ)
+rows-from e m = cond (m .live) (row-found m ∷ rest e m) []
+
+-- How many dockets there are from the least to come on.
+abbrev pub ahead : List ℕ → Sweep → ℕ
+ahead e m = 65536 - least-lo e (heads m) (m .levels)
+
+-- A step passes a docket, the least to come, or finds that none is left up to hi.
+pub record Stepped (e : List ℕ) (m r : Sweep) : Type 0 where
+  pub sweeping : Sweeping e r
+  pub leads : rest e m ≡ cond (r .going) (rest e r) (rows-from e r)
+  pub fewer : r .going ≡ true → ahead e r < ahead e m

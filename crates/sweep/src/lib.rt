@@ -1,0 +1,229 @@
+// The live dockets of sound tables in ascending order, one after the other. Each record is passed once: mostly one level goes on
+// alone for a while, and only where another level may have a say are all levels asked.
+use covers::seek;
+use cursors::key_at;
+use cursors::leader;
+use cursors::look;
+use cursors::open;
+use cursors::pass;
+use lookup::Decided;
+use rows::kind_of;
+use rows::stamp_of;
+use rows::tally_of;
+ghost use mathlib.Core.Path.{_≡_};
+ghost use mathlib.Core.Bool.{true, false};
+ghost use Prim.Native.Nat.{_<_, _≤_};
+ghost use lib.ListN.{getD};
+ghost use Rattle.model.specs.Lookup.{lookup, live};
+ghost use Rattle.tables.specs.Placed.{read-state};
+ghost use Rattle.lookup.specs.Readable.{Readable};
+ghost use Rattle.cursors.specs.Cursors.{next-lo};
+ghost use Rattle.sweep.specs.Sweeps.{heads, Sweeping, Foremost, Stepped, rest, rows-from};
+
+// The kind of a put.
+const PUT: u32 = 1;
+
+// The first point and the first range that each of some levels still has to come; the level that goes on alone, its first point
+// (its slot), and the docket before which it is alone; the last docket that is asked for; whether the sweep is still on its way to
+// a live docket, and the one that it has come to, if it has. Numbers that are written together do not stand side by side: read as
+// one word before they have reached memory, they would have to be waited for.
+pub struct Sweep {
+    pub slot: usize,
+    pub points: [usize; 7],
+    pub level: usize,
+    pub ranges: [usize; 7],
+    pub levels: usize,
+    pub key: u32,
+    pub live: bool,
+    pub value: u32,
+    pub going: bool,
+    pub stamp: u32,
+    pub hi: u32,
+    pub bound: u32,
+}
+
+// Comes to the first live docket from lo to hi.
+pub fn begin(e: &[u32], l: &[u32], lo: u32, hi: u32) -> Sweep
+    requires { ⌜ Readable (now e) (now l) ⌝ }
+    requires { ⌜ lo ≤ hi ⌝ }
+    requires { ⌜ hi ≤ 65535 ⌝ }
+    ensures { λ r. ⌜ Sweeping (now (e .entry)) r ⌝ }
+    ensures { λ r. ⌜ rows-from (now (e .entry)) r ≡ live (lookup (read-state (now (e .entry)) (now (l .entry)) .levels)) lo hi ⌝ }
+{
+    let mut points = [0usize; 7];
+    let mut ranges = [0usize; 7];
+    let levels = l[0] as usize + 1;
+    open(l, &mut points, &mut ranges);
+    pass(e, &mut points, &mut ranges, levels, lo);
+    let slot = points[0];
+    let m = Sweep {
+        points: points,
+        ranges: ranges,
+        levels: levels,
+        level: 0,
+        slot: slot,
+        bound: 0,
+        hi: hi,
+        going: true,
+        live: false,
+        key: 0,
+        value: 0,
+        stamp: 0,
+    };
+    advance(e, m)
+}
+
+// A sweep that has come to its end.
+pub fn ended() -> Sweep
+    ensures { λ r. ⌜ r .live ≡ false ⌝ }
+{
+    Sweep {
+        points: [0; 7],
+        ranges: [0; 7],
+        levels: 0,
+        level: 0,
+        slot: 0,
+        bound: 0,
+        hi: 0,
+        going: false,
+        live: false,
+        key: 0,
+        value: 0,
+        stamp: 0,
+    }
+}
+
+// Comes to the next live docket.
+pub fn advance(e: &[u32], m: Sweep) -> Sweep
+    requires { ⌜ Sweeping (now e) m ⌝ }
+    ensures { λ r. ⌜ Sweeping (now (e .entry)) r ⌝ }
+    ensures { λ r. ⌜ rows-from (now (e .entry)) r ≡ rest (now (e .entry)) m ⌝ }
+{
+    let mut r = m;
+    r.going = true;
+    while r.going {
+        r = step(e, r);
+    }
+    r
+}
+
+// One docket: by the level that goes on alone, or by another.
+fn step(e: &[u32], m: Sweep) -> Sweep
+    requires { ⌜ Sweeping (now e) m ⌝ }
+    requires { ⌜ m .going ≡ true ⌝ }
+    ensures { λ r. ⌜ Stepped (now (e .entry)) m r ⌝ }
+{
+    let key = key_at(e, m.slot);
+    if key < m.bound {
+        return go_alone(e, m, key);
+    }
+    change_level(e, m)
+}
+
+// One docket by a level that has the least key to come: alone, if it can, or with all the others.
+fn change_level(e: &[u32], m: Sweep) -> Sweep
+    requires { ⌜ Sweeping (now e) m ⌝ }
+    requires { ⌜ m .going ≡ true ⌝ }
+    ensures { λ r. ⌜ Stepped (now (e .entry)) m r ⌝ }
+{
+    let mut points = m.points;
+    let ranges = m.ranges;
+    let from = m.level;
+    points[from] = m.slot;
+    let a = leader(e, &points, &ranges, m.levels);
+    let to = a.level;
+    let mut c = m;
+    c.points = points;
+    c.level = to;
+    c.slot = points[to];
+    c.bound = a.bound;
+    let key = key_at(e, c.slot);
+    if key < c.bound {
+        return go_alone(e, c, key);
+    }
+    go_together(e, c, key)
+}
+
+// The least docket to come, which no other level has and no level above has a range over.
+fn go_alone(e: &[u32], m: Sweep, key: u32) -> Sweep
+    requires { ⌜ Sweeping (now e) m ⌝ }
+    requires { ⌜ m .going ≡ true ⌝ }
+    requires { ⌜ key ≡ next-lo (now e) (heads m) (m .level) ⌝ }
+    requires { ⌜ key < m .bound ⌝ }
+    ensures { λ r. ⌜ Stepped (now (e .entry)) m r ⌝ }
+{
+    if m.hi < key {
+        return none(m);
+    }
+    let mut r = m;
+    r.slot = seek(e, m.slot, key + 1);
+    if kind_of(e, m.slot) != PUT {
+        return r;
+    }
+    r.going = false;
+    r.live = true;
+    r.key = key;
+    r.value = tally_of(e, m.slot);
+    r.stamp = stamp_of(e, m.slot);
+    r
+}
+
+// The least docket to come, asked of all levels.
+fn go_together(e: &[u32], m: Sweep, key: u32) -> Sweep
+    requires { ⌜ Sweeping (now e) m ⌝ }
+    requires { ⌜ m .going ≡ true ⌝ }
+    requires { ⌜ key ≡ next-lo (now e) (heads m) (m .level) ⌝ }
+    requires { ⌜ Foremost (now e) m ⌝ }
+    ensures { λ r. ⌜ Stepped (now (e .entry)) m r ⌝ }
+{
+    if m.hi < key {
+        return none(m);
+    }
+    let mut points = m.points;
+    let mut ranges = m.ranges;
+    let decided = look(e, &points, &ranges, m.levels, key);
+    pass(e, &mut points, &mut ranges, m.levels, key + 1);
+    let r = regroup(m, points, ranges);
+    match decided {
+        Decided::Value(value, stamp) => found(r, key, value, stamp),
+        Decided::Absent => r,
+        Decided::Deeper => r,
+    }
+}
+
+// Other cursors; no level is alone.
+fn regroup(m: Sweep, points: [usize; 7], ranges: [usize; 7]) -> Sweep
+    requires { ⌜ m .level < 7 ⌝ }
+    ensures { λ r. ⌜ r ≡ record { points = points; ranges = ranges; levels = m .levels; level = m .level; slot = getD points (m .level) 0; bound = 0; hi = m .hi; going = m .going; live = m .live; key = m .key; value = m .value; stamp = m .stamp } ⌝ }
+{
+    let level = m.level;
+    let mut r = m;
+    r.points = points;
+    r.ranges = ranges;
+    r.slot = points[level];
+    r.bound = 0;
+    r
+}
+
+// The sweep has come to a live docket.
+fn found(m: Sweep, key: u32, value: u32, stamp: u32) -> Sweep
+    ensures { λ r. ⌜ r ≡ record { points = m .points; ranges = m .ranges; levels = m .levels; level = m .level; slot = m .slot; bound = m .bound; hi = m .hi; going = false; live = true; key = key; value = value; stamp = stamp } ⌝ }
+{
+    let mut r = m;
+    r.going = false;
+    r.live = true;
+    r.key = key;
+    r.value = value;
+    r.stamp = stamp;
+    r
+}
+
+// No live docket is left.
+fn none(m: Sweep) -> Sweep
+    ensures { λ r. ⌜ r ≡ record { points = m .points; ranges = m .ranges; levels = m .levels; level = m .level; slot = m .slot; bound = m .bound; hi = m .hi; going = false; live = false; key = m .key; value = m .value; stamp = m .stamp } ⌝ }
+{
+    let mut r = m;
+    r.going = false;
+    r.live = false;
+    r
+}
