@@ -6,7 +6,7 @@
 #include <stdbool.h>
 #include <string.h>
 
-enum { PUT = 1, DELETE = 2, RANGE = 3, LAST_DOCKET = 65535 };
+enum { PUT = 1, DELETE = 2, RANGE = 3, LAST_DOCKET = 65535, MOST_LEVELS = 7 };
 
 enum native_coverage native_coverage = NATIVE_TRIMMED;
 int native_checks = 1;
@@ -270,4 +270,55 @@ struct native_found native_lookup(const uint32_t *e, size_t ne, const uint32_t *
         if (at != 0 || walk_covers(e, ranges, docket)) break;
     }
     return absent;
+}
+
+/* Where a scan stands in one level: the next point and its docket, the next range, and the docket at which the ranges behind it end. */
+struct cursor {
+    uint32_t point, docket, range, reach;
+};
+
+/* One past the last docket where the points end. */
+static void stand_on(const uint32_t *e, struct cursor *c, uint32_t point) { c->point = point, c->docket = point == 0 ? LAST_DOCKET + 1 : lo_of(e, point); }
+
+static uint32_t next_docket(const struct cursor *at, uint32_t deepest) {
+    uint32_t docket = at[0].docket;
+    for (uint32_t i = 1; i <= deepest; i++)
+        if (at[i].docket < docket) docket = at[i].docket;
+    return docket;
+}
+
+/* Takes every cursor past the docket; its slot, or none where it is not live. */
+static uint32_t pass_docket(const uint32_t *e, struct cursor *at, uint32_t deepest, uint32_t docket) {
+    uint32_t slot = 0;
+    bool decided = false;
+    for (struct cursor *c = at; c <= at + deepest; c++) {
+        bool here = c->docket == docket;
+        for (; !decided && c->range != 0 && lo_of(e, c->range) <= docket; c->range = next_of(e, c->range))
+            if (c->reach <= hi_of(e, c->range)) c->reach = hi_of(e, c->range) + 1;
+        if (!decided && here && kind_of(e, c->point) == PUT) slot = c->point;
+        decided = decided || here || docket < c->reach;
+        if (here) stand_on(e, c, next_of(e, c->point));
+    }
+    return slot;
+}
+
+struct native_scanned native_scan(const uint32_t *e, size_t ne, const uint32_t *l, size_t nl, uint32_t lo, uint32_t hi, struct native_row *rows, size_t row_count) {
+    struct native_scanned answer = {native_checks ? native_check(e, ne, l, nl) : 0, 0, 0, 0};
+    if (answer.refusal == 0 && (hi > LAST_DOCKET || hi < lo)) answer.refusal = 4;
+    if (answer.refusal != 0) return answer;
+    struct cursor at[MOST_LEVELS];
+    for (uint32_t i = 0; i <= l[0]; i++) {
+        at[i].range = l[4 * (i + 1) + 1], at[i].reach = 0;
+        stand_on(e, &at[i], find_within(e, l[4 * (i + 1)], lo, LAST_DOCKET));
+    }
+    for (uint32_t docket; (docket = next_docket(at, l[0])) <= hi;) {
+        uint32_t slot = pass_docket(e, at, l[0], docket);
+        if (slot == 0) continue;
+        if (answer.count == row_count) {
+            answer.more = 1, answer.next = docket;
+            break;
+        }
+        rows[answer.count++] = (struct native_row){docket, e[4 * slot + 2], e[4 * slot + 3]};
+    }
+    return answer;
 }

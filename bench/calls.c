@@ -1,0 +1,174 @@
+/* Times whole calls of the archive beside the same calls in plain C: by turns, in one process, the same calls on copies of the same
+   tables. Prints a line for each load and size: load, slots, microseconds a call proved and in C, and their ratio. */
+#include "guontrem.h"
+#include "native_check.h"
+#include "native_store.h"
+
+#include <stdio.h>
+#include <stdlib.h>
+#include <string.h>
+#include <time.h>
+
+enum { DEEPEST = 3, RATIO = 4, BUFFER = 8, TERM = 1000, WIDEST = 4, MOST_CALLS = 2000, MOST_ROUNDS = 61, MOST_REFILLED = 4000 };
+enum { ENTRY_WORDS = 4 * (GUONTREM_MAX_SLOTS + 1), LEVEL_WORDS = 4 * (DEEPEST + 2) };
+
+/* A letter of the script program, or S for a scan of all dockets and C for the check. */
+struct call {
+    char letter;
+    uint32_t clock, lo, hi, tally;
+};
+
+struct tables {
+    uint32_t entries[ENTRY_WORDS], levels[LEVEL_WORDS];
+    size_t entry_words;
+};
+
+/* How calls are drawn, one letter out of these, and whether every slot holds a live docket first. */
+static const struct load {
+    const char *name, *letters;
+    int full;
+} loads[] = {
+    {"mixed", "PPPPPPPPDDRFTTGGGGGG", 0}, {"lookup", "G", 0}, {"delete-heavy", "PPPPPPPPPDDDDDDDDDTT", 0}, {"range-heavy", "PPPPPRRRRT", 0},
+    {"full table", "PPPPPPPPDT", 1},      {"scan", "S", 0},   {"check", "C", 0},
+};
+
+static const struct size {
+    uint32_t slots, calls, rounds;
+} sizes[] = {{10, 2000, 61}, {100, 2000, 61}, {1000, 1000, 41}, {4000, 400, 31}, {65535, 160, 15}};
+
+static struct tables before, work;
+static struct call calls[MOST_CALLS];
+static struct guontrem_row rows[GUONTREM_MAX_SLOTS];
+static struct native_row native_rows[GUONTREM_MAX_SLOTS];
+static uint64_t state = 88172645463325252u;
+
+static uint32_t random_below(uint32_t bound) {
+    state ^= state << 13;
+    state ^= state >> 7;
+    state ^= state << 17;
+    return (uint32_t)(state >> 16) % bound;
+}
+
+static uint64_t proved_call(struct tables *t, const struct call *c) {
+    uint32_t *e = t->entries, *l = t->levels;
+    size_t ne = t->entry_words;
+    switch (c->letter) {
+    case 'P': return guontrem_put(e, ne, l, LEVEL_WORDS, c->clock, c->lo, c->tally);
+    case 'D': return guontrem_delete(e, ne, l, LEVEL_WORDS, c->clock, c->lo);
+    case 'R': return guontrem_delete_range(e, ne, l, LEVEL_WORDS, c->clock, c->lo, c->hi);
+    case 'F': return guontrem_flush(e, ne, l, LEVEL_WORDS, c->clock);
+    case 'T': return guontrem_tick(e, ne, l, LEVEL_WORDS, c->clock);
+    case 'G': return guontrem_lookup(e, ne, l, LEVEL_WORDS, c->lo);
+    case 'S': return guontrem_scan(e, ne, l, LEVEL_WORDS, 0, GUONTREM_MAX_DOCKET, rows, ne / 4 - 1);
+    default: return guontrem_check(e, ne, l, LEVEL_WORDS);
+    }
+}
+
+static uint64_t of_timed(struct native_answer a) { return (uint64_t)a.refusal << 40 | (uint64_t)a.merges << 32 | a.purged; }
+
+static uint64_t of_found(struct native_found f) { return f.found ? (uint64_t)f.stamp << 32 | f.tally : f.refusal; }
+
+static uint64_t of_scanned(struct native_scanned s) { return (uint64_t)s.refusal << 56 | (uint64_t)s.more << 48 | (uint64_t)s.next << 32 | s.count; }
+
+static uint64_t native_call(struct tables *t, const struct call *c) {
+    uint32_t *e = t->entries, *l = t->levels;
+    size_t ne = t->entry_words;
+    switch (c->letter) {
+    case 'P': return of_timed(native_put(e, ne, l, LEVEL_WORDS, c->clock, c->lo, c->tally));
+    case 'D': return of_timed(native_delete(e, ne, l, LEVEL_WORDS, c->clock, c->lo));
+    case 'R': return of_timed(native_delete_range(e, ne, l, LEVEL_WORDS, c->clock, c->lo, c->hi));
+    case 'F': return of_timed(native_flush(e, ne, l, LEVEL_WORDS, c->clock));
+    case 'T': return of_timed(native_tick(e, ne, l, LEVEL_WORDS, c->clock));
+    case 'G': return of_found(native_lookup(e, ne, l, LEVEL_WORDS, c->lo));
+    case 'S': return of_scanned(native_scan(e, ne, l, LEVEL_WORDS, 0, GUONTREM_MAX_DOCKET, native_rows, ne / 4 - 1));
+    default: return native_check(e, ne, l, LEVEL_WORDS);
+    }
+}
+
+typedef uint64_t call_on(struct tables *, const struct call *);
+
+static void copy_tables(struct tables *to, const struct tables *from) {
+    memcpy(to->entries, from->entries, from->entry_words * sizeof *from->entries);
+    memcpy(to->levels, from->levels, sizeof from->levels);
+    to->entry_words = from->entry_words;
+}
+
+/* The processor's time, so that other work on the machine counts only by the caches it takes. */
+static double microseconds(void) {
+    struct timespec t;
+    clock_gettime(CLOCK_THREAD_CPUTIME_ID, &t);
+    return 1e6 * (double)t.tv_sec + 1e-3 * (double)t.tv_nsec;
+}
+
+/* Microseconds a call; the answers are added up so that both can be compared. */
+static double run(call_on *f, size_t count, uint64_t *sum) {
+    copy_tables(&work, &before);
+    double start = microseconds();
+    for (size_t i = 0; i < count; i++) *sum = *sum * 31 + f(&work, &calls[i]);
+    return (microseconds() - start) / (double)count;
+}
+
+static struct call draw(const char *letters, uint32_t clock, uint32_t dockets) {
+    uint32_t lo = random_below(dockets), hi = lo + random_below(WIDEST + 1);
+    return (struct call){letters[random_below((uint32_t)strlen(letters))], clock, lo, hi < dockets ? hi : dockets - 1, random_below(UINT32_MAX)};
+}
+
+/* Half the slots, or every one, hold live dockets in random order; then as many mixed calls as slots, unless the table is to be full. */
+static uint32_t fill(const struct load *load, uint32_t slots) {
+    uint32_t live = load->full ? slots : (slots + 1) / 2, clock = 1;
+    static uint32_t order[GUONTREM_MAX_SLOTS];
+    before.entry_words = GUONTREM_ENTRY_WORDS(slots);
+    native_make(before.entries, before.entry_words, before.levels, LEVEL_WORDS, DEEPEST, RATIO, BUFFER, TERM);
+    native_checks = 0;
+    for (uint32_t i = 0; i < live; i++) {
+        uint32_t j = random_below(i + 1);
+        order[i] = order[j], order[j] = i;
+    }
+    for (uint32_t i = 0; i < live; i++) native_call(&before, &(struct call){'P', clock, order[i], order[i], i});
+    for (uint32_t i = 0; !load->full && i < slots; i++) {
+        struct call c = draw(loads[0].letters, clock += i & 1, live);
+        native_call(&before, &c);
+    }
+    native_checks = 1;
+    return clock;
+}
+
+static int ascending(const void *a, const void *b) {
+    double x = *(const double *)a, y = *(const double *)b;
+    return (x > y) - (x < y);
+}
+
+static double median(double *numbers, size_t count) {
+    qsort(numbers, count, sizeof *numbers, ascending);
+    return numbers[count / 2];
+}
+
+static void prepare(const struct load *load, const struct size *size) {
+    uint32_t clock = fill(load, size->slots), dockets = load->full ? size->slots + 1 : (size->slots + 1) / 2;
+    for (uint32_t i = 0; i < size->calls; i++) calls[i] = draw(load->letters, clock += i & 1, dockets);
+}
+
+static void measure(const struct load *load, const struct size *size) {
+    static double proved[MOST_ROUNDS], native[MOST_ROUNDS], ratio[MOST_ROUNDS];
+    for (uint32_t i = 0; i < size->rounds; i++) {
+        uint64_t sums[2] = {0, 0};
+        /* How records lie in the levels differs much from one small table to the next; the largest are dear to fill. */
+        if (i == 0 || size->slots <= MOST_REFILLED) prepare(load, size);
+        if (i % 2 == 0) native[i] = run(native_call, size->calls, &sums[1]);
+        proved[i] = run(proved_call, size->calls, &sums[0]);
+        if (i % 2 == 1) native[i] = run(native_call, size->calls, &sums[1]);
+        if (sums[0] != sums[1]) {
+            fprintf(stderr, "%s, %u slots: the answers differ\n", load->name, size->slots);
+            exit(1);
+        }
+        ratio[i] = proved[i] / native[i];
+    }
+    printf("%s\t%u\t%.4f\t%.4f\t%.3f\n", load->name, size->slots, median(proved, size->rounds), median(native, size->rounds), median(ratio, size->rounds));
+    fflush(stdout);
+}
+
+int main(void) {
+    for (size_t i = 0; i < sizeof loads / sizeof *loads; i++)
+        for (size_t k = 0; k < sizeof sizes / sizeof *sizes; k++) measure(&loads[i], &sizes[k]);
+    return 0;
+}

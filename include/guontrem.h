@@ -1,0 +1,154 @@
+/* Guontrem: tallies by docket, in two tables of 32-bit words that the caller lends.
+
+   Every function of the library is proved: on tables of any content, and with any numbers, it ends without fault, answers as said
+   here and writes no word but those said here. docs/FORMAT.md has both tables word by word.
+
+   What a caller must see to:
+   - A table is a pointer and a count of words. The pointer is not null, also where the count is 0, and is aligned to 4 bytes.
+   - The entry table, the level table and the rows of a scan do not overlap.
+   - No other call writes the tables meanwhile. Calls that only read (check, lookup, scan) may run at the same time.
+   A call allocates nothing, keeps nothing between calls and needs about 9 KiB of stack; of the C library it needs memset. */
+#ifndef GUONTREM_H
+#define GUONTREM_H
+
+#include <stddef.h>
+#include <stdint.h>
+
+#ifdef __cplusplus
+extern "C" {
+#endif
+
+/* N, the slots: one record each. */
+#define GUONTREM_MIN_SLOTS 1
+#define GUONTREM_MAX_SLOTS 65535
+
+/* L, the deepest level; levels are 0, the buffer, to L. */
+#define GUONTREM_MIN_DEEPEST 2
+#define GUONTREM_MAX_DEEPEST 6
+
+/* T, the size ratio between one level and the next. */
+#define GUONTREM_MIN_RATIO 2
+#define GUONTREM_MAX_RATIO 10
+
+/* B, the buffer's size in records. */
+#define GUONTREM_MIN_BUFFER 1
+#define GUONTREM_MAX_BUFFER 64
+
+/* D, the term in ticks of the caller's clock: how long after a delete what it covered may stay in the tables. */
+#define GUONTREM_MIN_TERM 1
+#define GUONTREM_MAX_TERM UINT32_MAX
+
+/* Dockets are 0 to this one; tallies are any 32 bits. */
+#define GUONTREM_MAX_DOCKET 65535
+
+/* Words of the entry table for N slots and of the level table for the deepest level L. */
+#define GUONTREM_ENTRY_WORDS(slots) (4 * ((size_t)(slots) + 1))
+#define GUONTREM_LEVEL_WORDS(deepest) (4 * ((size_t)(deepest) + 2))
+
+/* Why a call is refused. Where two apply, the one that the function names first is the answer. */
+enum guontrem_refusal {
+    GUONTREM_ACCEPTED = 0,
+    GUONTREM_ENTRY_LENGTH = 1, /* entry_words is not GUONTREM_ENTRY_WORDS(N) for an allowed N */
+    GUONTREM_LEVEL_TABLE = 2,  /* a setting in the level table's first row is out of range, or level_words is not GUONTREM_LEVEL_WORDS(L) */
+    GUONTREM_UNSOUND = 3,      /* the tables are not sound: no store */
+    GUONTREM_DOCKET = 4,       /* a docket above GUONTREM_MAX_DOCKET, or lo above hi */
+    GUONTREM_CLOCK = 5,        /* clock 0, or before the last accepted one */
+    GUONTREM_SETTINGS = 6,     /* L, T, B or D out of range */
+    GUONTREM_FULL = 7          /* every slot holds a live docket, and the put's is none of them */
+};
+
+/* Makes a fresh store of the settings L, T, B and D; N follows from entry_words.
+   Answers a refusal: ENTRY_LENGTH, SETTINGS, LEVEL_TABLE (by its length alone), in this order, or ACCEPTED.
+   Tables: whatever they held, every slot is free, the last clock 0 and every level empty. Refused: as they were. */
+uint32_t guontrem_make(uint32_t *entries, size_t entry_words, uint32_t *levels, size_t level_words,
+                       uint32_t deepest, uint32_t ratio, uint32_t buffer, uint32_t term);
+
+/* Checks the tables, as every other call but guontrem_make does first.
+   Answers a refusal: ENTRY_LENGTH, LEVEL_TABLE, UNSOUND, in this order, or ACCEPTED.
+   Tables: as they were. */
+uint32_t guontrem_check(const uint32_t *entries, size_t entry_words, const uint32_t *levels, size_t level_words);
+
+/* The timed calls. Each begins with the check, does its own part and ends with the pass: the buffer is merged into level 1 if it
+   has B records, then each level from 1 to L-1 into the next if it is over its capacity or its limit of time. A record that a newer
+   one displaces goes in a merge and its slot is wiped.
+   Answers a number to be read by guontrem_timed_refusal, guontrem_timed_merges and guontrem_timed_purged.
+   Refusals: ENTRY_LENGTH, LEVEL_TABLE, UNSOUND, DOCKET (where dockets are given), CLOCK, in this order; for a put then FULL.
+   Tables: accepted, those of the store after the call, with its clock as the last. Refused: as they were; under FULL the levels
+   are merged down, which no lookup and no scan can tell, and the last clock is as it was.
+   Erasure, in a store that guontrem_make made and only these calls changed: once a delete was accepted and has left the buffer (in
+   its own call or a later one), and a call D or more ticks after it was accepted, both tables are word for word what they would be
+   had an earlier put that the delete covers carried any other tally. */
+
+/* Puts a docket's tally, in place of the one it had. */
+uint64_t guontrem_put(uint32_t *entries, size_t entry_words, uint32_t *levels, size_t level_words,
+                      uint32_t clock, uint32_t docket, uint32_t tally);
+
+/* Deletes a docket, live or not; never refused for lack of a slot. */
+uint64_t guontrem_delete(uint32_t *entries, size_t entry_words, uint32_t *levels, size_t level_words,
+                         uint32_t clock, uint32_t docket);
+
+/* Deletes the dockets from lo to hi, both included; never refused for lack of a slot. */
+uint64_t guontrem_delete_range(uint32_t *entries, size_t entry_words, uint32_t *levels, size_t level_words,
+                               uint32_t clock, uint32_t lo, uint32_t hi);
+
+/* Merges the buffer first, full or not, so that the term of the deletes in it is kept. */
+uint64_t guontrem_flush(uint32_t *entries, size_t entry_words, uint32_t *levels, size_t level_words, uint32_t clock);
+
+/* Does the pass alone, so that what has come due is merged. */
+uint64_t guontrem_tick(uint32_t *entries, size_t entry_words, uint32_t *levels, size_t level_words, uint32_t clock);
+
+/* Looks a docket up.
+   Answers a number to be read by guontrem_lookup_refusal, _found, _tally and _stamp.
+   Refusals: ENTRY_LENGTH, LEVEL_TABLE, UNSOUND, DOCKET, in this order.
+   Tables: as they were. */
+uint64_t guontrem_lookup(const uint32_t *entries, size_t entry_words, const uint32_t *levels, size_t level_words,
+                         uint32_t docket);
+
+/* A live docket, its tally and the clock of the put. */
+struct guontrem_row {
+    uint32_t docket, tally, stamp;
+};
+
+/* Fills rows with the live dockets from lo to hi, ascending, as many as there is room for; row_count may be 0.
+   Answers a number to be read by guontrem_scan_refusal, _count, _more and _next.
+   Refusals: ENTRY_LENGTH, LEVEL_TABLE, UNSOUND, DOCKET, in this order.
+   Tables: as they were. Rows past the count, and all rows of a refused scan: as they were. */
+uint64_t guontrem_scan(const uint32_t *entries, size_t entry_words, const uint32_t *levels, size_t level_words,
+                       uint32_t lo, uint32_t hi, struct guontrem_row *rows, size_t row_count);
+
+/* A timed call's answer. Refused: merges and purged are 0. */
+static inline uint32_t guontrem_timed_refusal(uint64_t answer) { return (uint32_t)(answer >> 40); }
+
+/* The merges whose upper level had a record. */
+static inline uint32_t guontrem_timed_merges(uint64_t answer) { return (uint32_t)(answer >> 32 & 0xff); }
+
+/* How many records went: held before + written - held after. */
+static inline uint32_t guontrem_timed_purged(uint64_t answer) { return (uint32_t)answer; }
+
+/* A lookup's answer. Absent or refused: found, tally and stamp are 0. */
+static inline int guontrem_lookup_found(uint64_t answer) { return answer >> 32 != 0; }
+
+static inline uint32_t guontrem_lookup_refusal(uint64_t answer) { return guontrem_lookup_found(answer) ? 0 : (uint32_t)answer; }
+
+static inline uint32_t guontrem_lookup_tally(uint64_t answer) { return guontrem_lookup_found(answer) ? (uint32_t)answer : 0; }
+
+/* The clock of the put that is found. */
+static inline uint32_t guontrem_lookup_stamp(uint64_t answer) { return (uint32_t)(answer >> 32); }
+
+/* A scan's answer. Refused: count, more and next are 0. */
+static inline uint32_t guontrem_scan_refusal(uint64_t answer) { return (uint32_t)(answer >> 56); }
+
+/* How many rows were filled. */
+static inline uint32_t guontrem_scan_count(uint64_t answer) { return (uint32_t)answer; }
+
+/* Whether live dockets outnumber the rows. */
+static inline int guontrem_scan_more(uint64_t answer) { return (int)(answer >> 48 & 1); }
+
+/* With more, the first live docket that has no row, from which another scan goes on; without, 0. */
+static inline uint32_t guontrem_scan_next(uint64_t answer) { return (uint32_t)(answer >> 32 & 0xffff); }
+
+#ifdef __cplusplus
+}
+#endif
+
+#endif

@@ -1,0 +1,92 @@
+//! The calls through the wrapper: a store's life, every refusal, and tables that stay as they were.
+use guontrem::{check, entry_words, level_words, Found, Passed, Refusal, Settings, Store, MAX_DOCKET, MAX_SLOTS};
+
+const SETTINGS: Settings = Settings { deepest: 3, ratio: 2, buffer: 2, term: 9 };
+const NOTHING: Passed = Passed { merges: 0, purged: 0 };
+
+#[test]
+fn answers_of_the_paper() -> Result<(), Refusal> {
+    let (mut entries, mut levels) = ([0xdead; entry_words(6)], [0xbeef; level_words(3)]);
+    let mut store = Store::make(&mut entries, &mut levels, SETTINGS)?;
+    assert_eq!(store.put(1, 7, 70)?, NOTHING);
+    assert_eq!(store.put(1, 8, 80)?, Passed { merges: 1, purged: 0 });
+    assert_eq!(store.delete(2, 7)?, NOTHING);
+    assert_eq!(store.put(3, 9, 90)?, Passed { merges: 1, purged: 1 });
+    assert_eq!(store.lookup(7)?, None);
+    assert_eq!(store.put(4, 7, 71)?, NOTHING);
+    assert_eq!(store.tick(5)?, Passed { merges: 1, purged: 0 });
+    assert_eq!(store.lookup(7)?, Some(Found { tally: 71, stamp: 4 }));
+    assert_eq!(store.tick(11)?, Passed { merges: 1, purged: 1 });
+    assert_eq!(store.flush(10), Err(Refusal::Clock));
+    Ok(())
+}
+
+#[test]
+fn a_range_and_a_flush() -> Result<(), Refusal> {
+    let (mut entries, mut levels) = ([0; entry_words(6)], [0; level_words(3)]);
+    let mut store = Store::make(&mut entries, &mut levels, SETTINGS)?;
+    store.put(1, 100, u32::MAX)?;
+    assert_eq!(store.lookup(100)?, Some(Found { tally: u32::MAX, stamp: 1 }));
+    assert_eq!(store.delete_range(u32::MAX, 0, MAX_DOCKET)?, Passed { merges: 0, purged: 1 });
+    assert_eq!(store.lookup(100)?, None);
+    assert_eq!(store.flush(u32::MAX)?, Passed { merges: 1, purged: 0 });
+    Ok(())
+}
+
+#[test]
+fn every_refusal() {
+    let (mut entries, mut levels) = (vec![0; entry_words(1)], vec![0; level_words(2)]);
+    let settings = Settings { deepest: 2, ratio: 2, buffer: 1, term: 4 };
+    assert_eq!(Store::make(&mut entries[..7], &mut levels, settings).unwrap_err(), Refusal::EntryLength);
+    assert_eq!(Store::make(&mut [], &mut [], settings).unwrap_err(), Refusal::EntryLength);
+    assert_eq!(
+        Store::make(&mut vec![0; entry_words(MAX_SLOTS + 1)], &mut levels, settings).unwrap_err(),
+        Refusal::EntryLength
+    );
+    assert_eq!(
+        Store::make(&mut entries, &mut levels, Settings { buffer: 65, ..settings }).unwrap_err(),
+        Refusal::Settings
+    );
+    assert_eq!(Store::make(&mut entries, &mut levels[..15], settings).unwrap_err(), Refusal::LevelTable);
+    assert_eq!(Store::open(&mut entries, &mut levels).unwrap_err(), Refusal::LevelTable);
+    let mut store = Store::make(&mut entries, &mut levels, settings).unwrap();
+    assert_eq!(store.put(1, MAX_DOCKET + 1, 1), Err(Refusal::Docket));
+    assert_eq!(store.delete_range(1, 1, 0), Err(Refusal::Docket));
+    assert_eq!(store.lookup(MAX_DOCKET + 1), Err(Refusal::Docket));
+    assert_eq!(store.tick(0), Err(Refusal::Clock));
+    assert_eq!(store.put(1, 5, 50), Ok(Passed { merges: 1, purged: 0 }));
+    assert_eq!(store.put(2, 5, 51), Ok(Passed { merges: 1, purged: 1 }));
+    assert_eq!(store.put(3, 6, 60), Err(Refusal::Full));
+    assert_eq!(store.delete(4, 5), Ok(Passed { merges: 0, purged: 2 }));
+    entries[2] = 1;
+    let before = (entries.clone(), levels.clone());
+    assert_eq!(check(&entries, &levels), Err(Refusal::Unsound));
+    assert_eq!(Store::open(&mut entries, &mut levels).unwrap_err(), Refusal::Unsound);
+    assert_eq!((entries, levels), before);
+}
+
+#[test]
+fn numbers_and_texts() {
+    let all = [
+        Refusal::EntryLength,
+        Refusal::LevelTable,
+        Refusal::Unsound,
+        Refusal::Docket,
+        Refusal::Clock,
+        Refusal::Settings,
+        Refusal::Full,
+    ];
+    assert_eq!(all.map(Refusal::number), [1, 2, 3, 4, 5, 6, 7]);
+    let texts: std::collections::BTreeSet<String> = all.iter().map(Refusal::to_string).collect();
+    assert_eq!(texts.len(), all.len());
+}
+
+#[test]
+fn the_largest_store() -> Result<(), Refusal> {
+    let (mut entries, mut levels) = (vec![0; entry_words(MAX_SLOTS)], vec![0; level_words(6)]);
+    let mut store =
+        Store::make(&mut entries, &mut levels, Settings { deepest: 6, ratio: 10, buffer: 64, term: u32::MAX })?;
+    assert_eq!(store.put(1, MAX_DOCKET, 1)?, NOTHING);
+    assert_eq!(store.lookup(MAX_DOCKET)?, Some(Found { tally: 1, stamp: 1 }));
+    Ok(())
+}

@@ -1,0 +1,24 @@
+#ifndef GUONTREM_TEST_COUNTS_H
+#define GUONTREM_TEST_COUNTS_H
+
+#include "calls.h"
+#include "tables.h"
+
+/* What was met so far. */
+struct counts {
+    uint64_t calls, refusals[KINDS][8];
+    uint64_t merges, purged, found, absent, more;
+    /* Scans by their rows: none, one, as many as live dockets, fewer, more. */
+    uint64_t no_rows, one_row, exact_rows, fewer_rows, more_rows;
+    /* Damaged tables by how they were damaged, and calls on them by what the check says before. */
+    uint64_t damages[DAMAGES], still_sound, no_longer_sound;
+};
+extern struct counts counts;
+
+void count_call(enum kind kind, struct answer a);
+/* Prints what was met, and ends the program where something was not, or where something was that cannot be. */
+void report_counts(void);
+/* Ends the program where the condition does not hold. */
+void require(bool holds, const char *what);
+
+#endif

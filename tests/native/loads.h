@@ -1,0 +1,20 @@
+#ifndef GUONTREM_TEST_LOADS_H
+#define GUONTREM_TEST_LOADS_H
+
+#include "calls.h"
+
+/* How the calls on one store are drawn. */
+struct load {
+    uint32_t slots, dockets, first, width, clock, steps[4];
+    struct settings settings;
+    const enum kind *mix;
+    uint32_t mix_size;
+};
+
+struct settings random_settings(void);
+/* A load for tables of so many slots whose last clock is the given one. */
+struct load random_load(uint32_t slots, struct settings settings, uint32_t clock);
+/* The next call; one in some is refused for its docket, its clock or its settings. */
+struct call random_call(struct load *load, const struct store *s);
+
+#endif

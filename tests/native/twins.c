@@ -1,0 +1,141 @@
+/* Demand 3 on the archive: lists alike in all but one put's tally leave the same words once it is erased, and in no four bytes of them that tally. */
+#define _GNU_SOURCE
+#include "twins.h"
+
+#include "calls.h"
+#include "counts.h"
+#include "guontrem.h"
+#include "loads.h"
+#include "random.h"
+
+#include <inttypes.h>
+#include <stdio.h>
+#include <string.h>
+
+/* Set in the chosen put's tally alone: other tallies have none of these bits, and the last byte of any docket, slot, clock or term has not. */
+static const uint32_t marked_bits = 0x80808080, last_marked_docket = 0x7fff;
+
+struct twins {
+    struct store one, two;
+    struct pair steps;
+    uint32_t docket, tallies[2], term;
+    /* The earliest accepted clock of a delete over the docket that waits in the buffer, and of one that has left it; 0 for none. */
+    uint32_t waiting, gone;
+    bool erased, differed, seen;
+};
+
+static struct {
+    uint64_t lists, differed, erased, both, seen;
+} met;
+
+static bool table_holds(const uint32_t *table, size_t words, uint32_t tally) { return memmem(table, words * sizeof *table, &tally, sizeof tally) != NULL; }
+
+static bool holds_bytes(const struct store *s, uint32_t tally) { return table_holds(s->entries, s->entry_words, tally) || table_holds(s->levels, s->level_words, tally); }
+
+static bool is_write(const struct call *c) { return c->kind == PUT || c->kind == DELETE || c->kind == DELETE_RANGE; }
+
+static uint32_t last_docket(const struct call *c) { return c->kind == DELETE_RANGE ? c->hi : c->lo; }
+
+/* "If no slot is free and the entry would free none in the buffer". */
+static bool is_crowded(const struct store *s, const struct call *c) {
+    const uint32_t *e = s->entries, *buffer = level_row(s, 0);
+    if (e[0] != 0) return false;
+    for (uint32_t at = buffer[0]; at != 0; at = e[4 * at] & 65535)
+        if (c->lo <= (e[4 * at + 1] & 65535) && (e[4 * at + 1] & 65535) <= last_docket(c)) return false;
+    for (uint32_t at = buffer[1]; c->kind == DELETE_RANGE && at != 0; at = e[4 * at] & 65535)
+        if (e[4 * at + 1] == (c->lo | c->hi << 16)) return false;
+    return true;
+}
+
+static uint32_t earlier(uint32_t a, uint32_t b) { return a == 0 || (b != 0 && b < a) ? b : a; }
+
+/* What became of the deletes over the docket, by document 01's words. `merged` is whether the buffer was merged before an entry. */
+static void follow(struct twins *t, const struct call *c, uint32_t refusal, bool merged) {
+    bool covers = (c->kind == DELETE || c->kind == DELETE_RANGE) && c->lo <= t->docket && t->docket <= last_docket(c);
+    /* A delete in the buffer leaves a record there, so an empty buffer has been merged; a delete on level L leaves it empty too. */
+    bool empty = level_row(&t->steps.native, 0)[2] == 0;
+    if (merged || empty) t->gone = earlier(t->gone, t->waiting), t->waiting = 0;
+    if (refusal != 0) return;
+    if (covers && empty) t->gone = earlier(t->gone, c->clock);
+    if (covers && !empty) t->waiting = earlier(t->waiting, c->clock);
+    if (t->gone != 0 && t->term <= c->clock - t->gone) t->erased = true;
+}
+
+static struct answer call_all(struct twins *t, const struct call *c, const struct call *other) {
+    copy_words(&t->steps.before, &t->one);
+    struct answer expected = native_call(&t->steps.native, c);
+    uint64_t one = proved_call(&t->one, c), two = proved_call(&t->two, other);
+    copy_words(&t->steps.proved, &t->one);
+    if (one != two) fail("the twins' answers differ", &t->steps, c);
+    if (one != pack(c->kind, expected)) fail("the answers differ", &t->steps, c);
+    count_call(c->kind, expected);
+    count_call(c->kind, expected);
+    return expected;
+}
+
+static void step(struct twins *t, const struct call *c, const struct call *other, bool after) {
+    bool crowded = is_write(c) && is_crowded(&t->steps.native, c);
+    struct answer a = call_all(t, c, other);
+    bool merged = (a.refusal == 0 && (c->kind == FLUSH || crowded)) || a.refusal == GUONTREM_FULL;
+    if (after && (a.refusal == 0 || a.refusal == GUONTREM_FULL)) follow(t, c, a.refusal, merged);
+    bool same = same_words(&t->one, &t->two), seen = holds_bytes(&t->one, t->tallies[0]) || holds_bytes(&t->two, t->tallies[1]);
+    t->differed |= !same, t->seen |= seen;
+    if (t->erased && !same) fail("words differ though the put was erased", &t->steps, c);
+    if (t->erased && seen) fail("the bytes of an erased tally are in the tables", &t->steps, c);
+}
+
+/* Dockets and clocks stay small, so that no bytes but the marked tallies look like them. */
+static struct load twin_load(uint32_t slots, struct settings settings) {
+    static const uint32_t terms[] = {1, 2, 9, 40};
+    settings.term = RANDOM_OF(terms);
+    struct load load = random_load(slots, settings, 1);
+    const uint32_t dockets[] = {slots, slots + 1, 3 * slots};
+    load.dockets = RANDOM_OF(dockets), load.first = 0, load.clock = 1;
+    return load;
+}
+
+static struct call twin_call(struct load *load, const struct store *s) {
+    struct call c;
+    do c = random_call(load, s);
+    while (c.kind < PUT || (last_marked_docket < last_docket(&c) && last_docket(&c) <= GUONTREM_MAX_DOCKET));
+    c.tally &= ~marked_bits;
+    return c;
+}
+
+static void run_list(uint32_t slots, uint32_t length) {
+    struct load load = twin_load(slots, random_settings());
+    size_t entry_words = GUONTREM_ENTRY_WORDS(slots), level_words = GUONTREM_LEVEL_WORDS(load.settings.deepest);
+    struct twins t = {.one = new_store(entry_words, level_words), .two = new_store(entry_words, level_words), .steps = new_pair(entry_words, level_words)};
+    struct call make = {.kind = MAKE, .settings = load.settings}, put = {.kind = PUT};
+    t.docket = random_below(load.dockets), t.term = load.settings.term;
+    t.tallies[0] = random_word() | marked_bits;
+    do t.tallies[1] = random_word() | marked_bits;
+    while (t.tallies[1] == t.tallies[0]);
+    call_all(&t, &make, &make);
+    for (uint32_t i = 0, chosen = random_below(length / 2); i < length; i++) {
+        struct call c = twin_call(&load, &t.one), other;
+        if (i == chosen) put.clock = c.clock, put.lo = t.docket, put.tally = t.tallies[0], c = put;
+        other = c;
+        if (i == chosen) other.tally = t.tallies[1];
+        step(&t, &c, &other, chosen < i);
+    }
+    met.lists++, met.differed += t.differed, met.erased += t.erased, met.both += t.differed && t.erased, met.seen += t.seen && t.erased;
+    free_store(&t.one);
+    free_store(&t.two);
+    free_pair(&t.steps);
+}
+
+void run_twins(uint64_t calls) {
+    static const struct {
+        uint32_t slots, length;
+    } sizes[] = {{1, 40}, {2, 60}, {2, 60}, {5, 120}, {5, 120}, {5, 120}, {30, 300}, {300, 1500}};
+    for (uint64_t end = counts.calls + calls; counts.calls < end;) {
+        /* The longest list only where there are calls for it. */
+        uint32_t size = random_below(calls < 50000 ? 7 : 8);
+        run_list(sizes[size].slots, sizes[size].length);
+    }
+    printf("%12" PRIu64 "  twin lists: in %" PRIu64 " words differed, in %" PRIu64 " the put was erased, in %" PRIu64 " both\n", met.lists, met.differed, met.erased, met.both);
+    printf("%12" PRIu64 "  twin lists whose erased tally had been in the tables\n", met.seen);
+    require(met.lists / 10 < met.both, "lists in which words differed and the put was erased");
+    require(met.both == met.seen, "an erased tally was in the tables exactly where words differed");
+}
