@@ -19,7 +19,8 @@ use Rattle.tables.specs.Placed.{read-state}
 use Rattle.tables.proofs.LevelSound.{Fits32}
 use Rattle.tables.proofs.FormedSound.{sound-words}
 use Rattle.calls.specs.Calls.{Tables, wrote, call-tables}
-use Rattle.calls.proofs.Refusals.{refused-exactly, tables-refuse-low}
+use Rattle.tables.proofs.Numbers.{tables-refuse-low}
+use Rattle.calls.proofs.Refusals.{refused-exactly}
 
 module _ (w : Tables) (c : Call ℕ) where
   abbrev p : State ℕ ℕ

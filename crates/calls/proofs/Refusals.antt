@@ -2,36 +2,28 @@
 use mathlib.Core.Path.{_≡_, refl, sym, ap, _∙_}
 use mathlib.Core.Logic.{_≢_}
 use mathlib.Core.Bool.{Bool, true, false, cond}
-use mathlib.Core.List.{List}
-use Prim.Native.Nat.{ℕ, _≤_}
+use Prim.Native.Nat.{ℕ}
 use native.Mathlib.Omega.{arith}
 use lib.Dec.{eqb}
-use borrow.Author.Tests.{ne-eqb}
-use Rattle.lists.proofs.Bools.{cond-ap}
+use borrow.Author.Tests.{eqb-true, ne-eqb}
+use Rattle.settings.proofs.Allowed.{allowed-bounds}
+use Rattle.lists.proofs.Bools.{by-cases, cond-ap}
 use Rattle.model.specs.Records.{State}
 use Rattle.model.specs.Steps.{delete, delete-range, merge-all, no-slot}
-use Rattle.model.specs.Calls.{Call, Outcome, written, bad-docket, bad-clock, out-of-slots, refused, refusing, step}
+use Rattle.model.specs.Calls.{Call, Outcome, written, bad-docket, bad-clock, out-of-slots, refusing, step}
 use Rattle.model.specs.Erasure.{accepted}
 use Rattle.model.proofs.StepView.{StepView, refused-4, refused-5, refused-7, passed, step-view, accepted-outcome}
+use Rattle.model.proofs.PlainMaps.{merge-all-clock}
 use Rattle.model.proofs.Demands as model
 use Rattle.tables.specs.Words.{slots-of, clock-of}
-use Rattle.tables.specs.Sound.{entries-fit, levels-fit, chains-sound, table-refusal}
-use Rattle.tables.specs.Placed.{read-state}
+use Rattle.tables.specs.Sound.{table-refusal}
+use Rattle.tables.specs.Placed.{read-state, entry-words}
+use Rattle.tables.proofs.Numbers.{tables-refuse-low}
 use Rattle.tables.proofs.LevelSound.{Fits32}
 use Rattle.tables.proofs.FormedSound.{words-sound, sound-words}
-use Rattle.tables.proofs.FormedSteps.{step-formed}
+use Rattle.tables.proofs.Back.{written-reads}
+use Rattle.tables.proofs.FormedSteps.{step-formed, merge-all-formed}
 use Rattle.calls.specs.Calls.{Tables, Called, words, wrote, call-tables, refusal-number, merged-tables}
-
--- The tables' own refusals are 1 to 3.
-pub tables-refuse-low : (e l : List ℕ) → table-refusal e l ≤ 3
-unfolding table-refusal
-tables-refuse-low e l = go (entries-fit e) (levels-fit l) (chains-sound e l)
-  where
-    go : (a b c : Bool) → cond a (cond b (cond c 0 3) 2) 1 ≤ 3
-    go true true true = omega arith
-    go true true false = omega arith
-    go true false c = omega arith
-    go false b c = omega arith
 
 module _ (w : Tables) (c : Call ℕ) where
   abbrev p : State ℕ ℕ
@@ -85,6 +77,21 @@ module _ (w : Tables) (c : Call ℕ) where
           → cond b (wrote (slots-of (w .entries)) (step p c)) (record { tables = w; answer = refusing t }) .tables ≡ merged-tables w
       go true h = ap (words (slots-of (w .entries))) (step-full h)
       go false h = absurd (omega (arith, tables-refuse-low (w .entries) (w .levels)))
+
+  -- A call is refused 7 on sound tables only.
+  refused-7-sound : call-tables w c .answer .refusal ≡ 7 → t ≡ 0
+  refused-7-sound h = by-cases (eqb t 0) (λ yes. eqb-true t 0 yes) (λ no. absurd (omega (arith, tables-refuse-low (w .entries) (w .levels), rw no at (sym refused-exactly ∙ h))))
+
+  -- And its clock word is as before.
+  pub refused-7-clock : Fits32 (w .entries) → call-tables w c .answer .refusal ≡ 7 → clock-of (call-tables w c .tables .entries) ≡ clock-of (w .entries)
+  unfolding read-state
+  refused-7-clock fits h =
+      let n = slots-of (w .entries) in
+      let f = sound-words (w .entries) (w .levels) fits (refused-7-sound h) .formed in
+      let q = merge-all p .state in
+      let deep = allowed-bounds (p .settings) (f .settings-ok) .deepest-low in
+      let back : clock-of (entry-words n q) ≡ q .clock = ap (λ (s : State ℕ ℕ). s .clock) (written-reads n q (merge-all-formed n p f)) in
+      ap (λ (x : Tables). clock-of (x .entries)) (refused-7-leaves h) ∙ back ∙ merge-all-clock p (omega (arith, deep))
 
   -- "A delete is never refused for lack of a slot", nor is anything but a put.
   pub never-full : out-of-slots (c .clock) (c .op) p ≡ false → call-tables w c .answer .refusal ≢ 7

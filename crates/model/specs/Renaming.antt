@@ -2,7 +2,7 @@
 use mathlib.Core.List.{map}
 use Rattle.model.specs.Records.{Entry, value, tombstone, Point, Range, Level, State}
 use Rattle.model.specs.Steps.{Work, Write, put, delete, delete-range}
-use Rattle.model.specs.Lookup.{Found, absent, found, Row}
+use Rattle.model.specs.Lookup.{Found, absent, found}
 use Rattle.model.specs.Calls.{Op, written, flush, tick, Call, Outcome}
 
 module _ {A B : Type 0} (f : A → B) where
@@ -13,9 +13,6 @@ module _ {A B : Type 0} (f : A → B) where
   abbrev pub map-found : Found A → Found B
   map-found absent = absent
   map-found (found a t) = found (f a) t
-
-  abbrev pub map-row : Row A → Row B
-  map-row r = record { key = r .key; tally = f (r .tally); stamp = r .stamp }
 
   abbrev pub map-write : Write A → Write B
   map-write (put k a) = put k (f a)

@@ -13,7 +13,8 @@ use Rattle.lists.proofs.Tests.{all-weaken}
 use Rattle.model.specs.Lookup as model
 use Rattle.model.specs.Lookup.{Found, absent, found, add-row, live-from, live, first-key}
 use Rattle.model.proofs.Scans.{live-listed}
-use Rattle.tables.specs.Sound.{chains-sound, entries-fit, levels-fit, table-refusal}
+use Rattle.tables.specs.Sound.{table-refusal}
+use Rattle.tables.proofs.Numbers.{tables-refuse-low}
 use Rattle.tables.specs.Placed.{read-state}
 use Rattle.scan.specs.declared.Row.{Row}
 use Rattle.scan.specs.Scan.{scan-refusal, scan-tables}
@@ -45,18 +46,8 @@ module _ {A : Type 0} where
       unfolding model.scan
       next-low order = first-key-low (suc hi) (omega arith) room (live look lo hi) (all-weaken _ _ (λ r l. l .high) (live look lo hi) (live-listed look lo hi order))
 
-tables-low : (e l : List ℕ) → table-refusal e l ≤ 3
-unfolding table-refusal
-tables-low e l = go (entries-fit e) (levels-fit l) (chains-sound e l)
-  where
-    go : (a b c : Bool) → cond a (cond b (cond c 0 3) 2) 1 ≤ 3
-    go true true true = omega arith
-    go true true false = omega arith
-    go true false c = omega arith
-    go false b c = omega arith
-
 refusal-low : (e l : List ℕ) (lo hi : ℕ) → scan-refusal e l lo hi ≤ 4
-refusal-low e l lo hi = go (eqb (table-refusal e l) 0) (ltb 65535 hi || ltb hi lo) (table-refusal e l) (tables-low e l)
+refusal-low e l lo hi = go (eqb (table-refusal e l) 0) (ltb 65535 hi || ltb hi lo) (table-refusal e l) (tables-refuse-low e l)
   where
     go : (a b : Bool) (r : ℕ) → r ≤ 3 → cond a (cond b 4 0) r ≤ 4
     go true true r h = omega arith

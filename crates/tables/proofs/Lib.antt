@@ -9,6 +9,7 @@ pub mod LevelRows
 pub mod Back
 pub mod Linked
 pub mod LevelSound
+pub mod Numbers
 pub mod SoundWords
 pub mod Remains
 pub mod WordsSound
