@@ -23,13 +23,18 @@ struct tables {
     size_t entry_words;
 };
 
-/* How calls are drawn, one letter out of these, and whether every slot holds a live docket first. */
+/* What the tables hold first: half the slots live and mixed calls after that, every slot live, or every slot live with dockets that
+   stand in the two deepest levels by turns, so that no level can go on alone in a scan. */
+enum shape { MIXED, FULL, BY_TURNS };
+
+/* How calls are drawn, one letter out of these. */
 static const struct load {
     const char *name, *letters;
-    int full;
+    enum shape shape;
 } loads[] = {
-    {"mixed", "PPPPPPPPDDRFTTGGGGGG", 0}, {"lookup", "G", 0}, {"delete-heavy", "PPPPPPPPPDDDDDDDDDTT", 0}, {"range-heavy", "PPPPPRRRRT", 0},
-    {"full table", "PPPPPPPPDT", 1},      {"scan", "S", 0},   {"check", "C", 0},
+    {"mixed", "PPPPPPPPDDRFTTGGGGGG", MIXED}, {"lookup", "G", MIXED}, {"delete-heavy", "PPPPPPPPPDDDDDDDDDTT", MIXED}, {"range-heavy", "PPPPPRRRRT", MIXED},
+    {"full table", "PPPPPPPPDT", FULL}, {"scan", "S", MIXED}, {"check", "C", MIXED},
+    {"lookup, all live", "G", FULL}, {"scan, all live", "S", FULL}, {"lookup, by turns", "G", BY_TURNS}, {"scan, by turns", "S", BY_TURNS},
 };
 
 static const struct size {
@@ -113,19 +118,33 @@ static struct call draw(const char *letters, uint32_t clock, uint32_t dockets) {
     return (struct call){letters[random_below((uint32_t)strlen(letters))], clock, lo, hi < dockets ? hi : dockets - 1, random_below(UINT32_MAX)};
 }
 
+/* Every slot a put of its own docket, in level L or L - 1 by turns: sound tables, laid out word by word. */
+static void lay_by_turns(uint32_t slots) {
+    before.entries[0] = 0, before.entries[1] = 1;
+    for (uint32_t i = slots; i-- > 0;) {
+        uint32_t *level = before.levels + 4 * (DEEPEST - i % 2 + 1), *row = before.entries + 4 * (i + 1), docket = (uint32_t)((uint64_t)i * 65536 / slots);
+        row[0] = 65536 + level[0], row[1] = docket | docket << 16, row[2] = i, row[3] = 1;
+        level[0] = i + 1, level[2] += 1;
+    }
+}
+
 /* Half the slots, or every one, hold live dockets in random order; then as many mixed calls as slots, unless the table is to be full. */
 static uint32_t fill(const struct load *load, uint32_t slots) {
-    uint32_t live = load->full ? slots : (slots + 1) / 2, clock = 1;
+    uint32_t live = load->shape == FULL ? slots : (slots + 1) / 2, clock = 1;
     static uint32_t order[GUONTREM_MAX_SLOTS];
     before.entry_words = GUONTREM_ENTRY_WORDS(slots);
     native_make(before.entries, before.entry_words, before.levels, LEVEL_WORDS, DEEPEST, RATIO, BUFFER, TERM);
+    if (load->shape == BY_TURNS) {
+        lay_by_turns(slots);
+        return clock;
+    }
     native_checks = 0;
     for (uint32_t i = 0; i < live; i++) {
         uint32_t j = random_below(i + 1);
         order[i] = order[j], order[j] = i;
     }
     for (uint32_t i = 0; i < live; i++) native_call(&before, &(struct call){'P', clock, order[i], order[i], i});
-    for (uint32_t i = 0; !load->full && i < slots; i++) {
+    for (uint32_t i = 0; load->shape == MIXED && i < slots; i++) {
         struct call c = draw(loads[0].letters, clock += i & 1, live);
         native_call(&before, &c);
     }
@@ -144,7 +163,8 @@ static double median(double *numbers, size_t count) {
 }
 
 static void prepare(const struct load *load, const struct size *size) {
-    uint32_t clock = fill(load, size->slots), dockets = load->full ? size->slots + 1 : (size->slots + 1) / 2;
+    uint32_t clock = fill(load, size->slots);
+    uint32_t dockets = load->shape == BY_TURNS ? 65536 : load->shape == FULL ? size->slots + 1 : (size->slots + 1) / 2;
     for (uint32_t i = 0; i < size->calls; i++) calls[i] = draw(load->letters, clock += i & 1, dockets);
 }
 

@@ -16,6 +16,10 @@ MEANINGS = {
     "full table": "80 % puts, 10 % deletes, 10 % ticks on one docket more than slots, every slot taken at the start",
     "scan": "all dockets, with a row for each slot",
     "check": "the check that every call begins with, alone",
+    "lookup, all live": "a docket, where every slot is live, in the order of puts at random",
+    "scan, all live": "all dockets of the same",
+    "lookup, by turns": "a docket, where every slot is live and the two deepest levels have the dockets by turns, so that none goes on alone",
+    "scan, by turns": "all dockets of the same",
 }
 HEAD = """# Time per call
 
@@ -59,14 +63,14 @@ def scans_by_lookups(results):
     found = {(r.load, r.slots): r for r in results}
     rows = []
     for slots in sorted({r.slots for r in results}):
-        scan, lookup = found["scan", slots], found["lookup", slots]
-        rows.append([f"{slots:,}", f"{scan.proved / lookup.proved:.2f}", f"{scan.native / lookup.native:.2f}"])
-    return table(["N", "Proved", "C"], rows)
+        pairs = [(found["scan" + shape, slots], found["lookup" + shape, slots]) for shape in ("", ", all live", ", by turns")]
+        rows.append([f"{slots:,}"] + [f"{scan.proved / lookup.proved:.2f} ({scan.native / lookup.native:.2f})" for scan, lookup in pairs])
+    return table(["N", "mixed calls", "all live", "by turns"], rows)
 
 
 def report(results, load):
     parts = [HEAD.format(processors=os.cpu_count(), load=load), table(["Load", "What is timed"], ([f"{name}", meaning] for name, meaning in MEANINGS.items())),
-             times(results), "## A scan of all live dockets, in lookups\n", scans_by_lookups(results)]
+             times(results), "## A scan of all live dockets, in lookups on the same tables\n\nProved, and in brackets C.\n", scans_by_lookups(results)]
     return "\n".join(parts)
 
 
