@@ -1,5 +1,6 @@
 -- Cursors: for each level the first point and the first range that are still to come, as two lists of slots.
 use mathlib.Core.Path.{_≡_}
+use mathlib.Core.Logic.{_≢_}
 use mathlib.Core.Bool.{cond}
 use mathlib.Core.List.{List, [], _∷_}
 use Prim.Native.Nat.{ℕ, zero, suc, _<_, _≤_, min}
@@ -11,7 +12,7 @@ use Rattle.tables.specs.Words.{settings-of, level-row, lo-of}
 use Rattle.tables.specs.Sound.{chain-from}
 use Rattle.covers.specs.Walks.{Ordered}
 use Rattle.lookup.specs.Answers.{chain-level}
-use Rattle.cursors.specs.declared.Alone.{Alone}
+use Rattle.cursors.specs.declared.Pair.{Pair}
 use Rattle.cursors.specs.declared.Lead.{Lead}
 
 -- What n levels from level i on still have to come.
@@ -55,16 +56,24 @@ pub record Passed (e : List ℕ) (k : ℕ) (points ranges points′ ranges′ : 
   pub begins : (i : ℕ) → i < n → k ≤ next-lo e points′ i
   pub looks : (j : ℕ) → k ≤ j → lookup (coming e points′ ranges′ n) j ≡ lookup (coming e points ranges n) j
 
--- Of n levels, a level with the least key to come; and before the bound no other level has a point, and no level above it a range.
-pub record Leads (e points ranges : List ℕ) (n : ℕ) (a : Alone) : Type 0 where
+-- Of n levels, two: one with the least key to come, which is alone before the bound, and a second; before the limit no other level has a point, and no level
+-- above either of them a range.
+pub record Leads (e points ranges : List ℕ) (n : ℕ) (a : Pair) : Type 0 where
   pub inside : a .level < n
+  pub second-inside : a .second < n
+  pub apart : a .second ≢ a .level
   pub least : (i : ℕ) → i < n → next-lo e points (a .level) ≤ next-lo e points i
-  pub others : (i : ℕ) → i < n → (i ≡ a .level → ⊥) → a .bound ≤ next-lo e points i
-  pub above : (i : ℕ) → i < a .level → a .bound ≤ next-lo e ranges i
+  pub within : a .bound ≤ a .limit
+  pub before-second : a .bound ≤ next-lo e points (a .second)
+  pub others : (i : ℕ) → i < n → i ≢ a .level → i ≢ a .second → a .limit ≤ next-lo e points i
+  pub above-level : (i : ℕ) → i < a .level → a .limit ≤ next-lo e ranges i
+  pub above-second : (i : ℕ) → i < a .second → a .limit ≤ next-lo e ranges i
 
--- The leading level among those up to level i, where those before it gave m and its first point and first range begin at p and r.
+-- The two among the levels up to level i, where those before it gave m and its first point and first range begin at p and r.
 abbrev pub led : Lead → ℕ → ℕ → ℕ → Lead
 led m i p r =
     cond (ltb p (m .least))
-    (record { level = i; least = p; bound = min (m .least) (m .above); above = min (m .above) r })
-    (record { level = m .level; least = m .least; bound = min (m .bound) p; above = min (m .above) r })
+    (record { level = i; second = m .level; least = p; next = m .least; bound = min (m .next) (m .above); above = min (m .above) r })
+    (cond (ltb p (m .next))
+    (record { level = m .level; second = i; least = m .least; next = p; bound = min (m .next) (m .above); above = min (m .above) r })
+    (record { level = m .level; second = m .second; least = m .least; next = m .next; bound = min (m .bound) p; above = min (m .above) r }))

@@ -18,16 +18,22 @@ ghost use Rattle.cursors.specs.Cursors.{coming, first-lo, led, Ready, Op
 // Past the last docket: no record is left.
 const NO_KEY: u32 = 65536;
 
-// A level that has the least key to come, and the docket before which it is alone.
-pub struct Alone {
+// A level that has the least key to come, and the docket before which it is alone; a second level, and the docket before which the
+// two are alone.
+pub struct Pair {
     pub level: usize,
+    pub second: usize,
     pub bound: u32,
+    pub limit: u32,
 }
 
-// The same while the levels are gone through: also the least key so far, and where the first of the ranges so far begins.
+// The two while the levels are gone through: the least key so far and the next, the docket before which the two are alone, and where
+// the first of the ranges so far begins.
 struct Lead {
     level: usize,
+    second: usize,
     least: u32,
+    next: u32,
     bound: u32,
     above: u32,
 }
@@ -100,30 +106,35 @@ pub fn key_at(e: &[u32], slot: usize) -> u32
     lo_of(e, slot)
 }
 
-// Finds a level with the least key to come.
-pub fn leader(e: &[u32], points: &[usize], ranges: &[usize], levels: usize) -> Alone
+// Finds a level with the least key to come, and a second one with the least key of the others.
+pub fn leaders(e: &[u32], points: &[usize], ranges: &[usize], levels: usize) -> Pair
     requires { ⌜ Ready (now e) (now points) (now ranges) levels ⌝ }
-    requires { ⌜ 0 < levels ⌝ }
+    requires { ⌜ 1 < levels ⌝ }
     ensures { λ r. ⌜ Leads (now (e .entry)) (now (points .entry)) (now (ranges .entry)) levels r ⌝ }
 {
+    let above = key_at(e, ranges[0]);
     let mut m = Lead {
         level: 0,
+        second: 1,
         least: key_at(e, points[0]),
-        bound: NO_KEY,
-        above: key_at(e, ranges[0]),
+        next: NO_KEY,
+        bound: above,
+        above: above,
     };
     let mut i = 1;
     while i < levels {
         m = lead_next(m, i, key_at(e, points[i]), key_at(e, ranges[i]));
         i += 1;
     }
-    Alone {
+    Pair {
         level: m.level,
-        bound: m.bound,
+        second: m.second,
+        bound: lesser(m.next, m.bound),
+        limit: m.bound,
     }
 }
 
-// Goes on to level i, whose first point and first range begin here: the least key is its own, or it is not alone past that.
+// Goes on to level i, whose first point and first range begin here: it leads, it is second, or the two are not alone past its point.
 fn lead_next(m: Lead, i: usize, point: u32, range: u32) -> Lead
     ensures { λ r. ⌜ r ≡ led m i point range ⌝ }
 {
@@ -131,21 +142,35 @@ fn lead_next(m: Lead, i: usize, point: u32, range: u32) -> Lead
     if point < m.least {
         return Lead {
             level: i,
+            second: m.level,
             least: point,
-            bound: lesser(m.least, m.above),
+            next: m.least,
+            bound: lesser(m.next, m.above),
+            above: above,
+        };
+    }
+    if point < m.next {
+        return Lead {
+            level: m.level,
+            second: i,
+            least: m.least,
+            next: point,
+            bound: lesser(m.next, m.above),
             above: above,
         };
     }
     Lead {
         level: m.level,
+        second: m.second,
         least: m.least,
+        next: m.next,
         bound: lesser(m.bound, point),
         above: above,
     }
 }
 
 // The lesser of two numbers.
-fn lesser(a: u32, b: u32) -> u32
+pub fn lesser(a: u32, b: u32) -> u32
     ensures { λ r. ⌜ r ≡ min a b ⌝ }
 {
     if a < b { a } else { b }

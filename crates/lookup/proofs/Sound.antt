@@ -25,6 +25,7 @@ readable e l h =
     let f = sound-facts e l h in
     record {
       rows = f .length-levels;
+      deep = allowed-bounds (settings-of l) (f .settings-ok) .deepest-low;
       shallow = allowed-bounds (settings-of l) (f .settings-ok) .deepest-high;
       points = λ i k.
           let c = points-end e l f i k in

@@ -8,6 +8,7 @@ use Rattle.covers.specs.Walks.{Ordered}
 
 pub record Readable (e l : List ℕ) : Type 0 where
   pub rows : length l ≡ 4 * (settings-of l .deepest + 2)
+  pub deep : 2 ≤ settings-of l .deepest
   pub shallow : settings-of l .deepest ≤ 6
   pub points : (i : ℕ) → i ≤ settings-of l .deepest → Ordered e (level-row l i .w0)
   pub ranges : (i : ℕ) → i ≤ settings-of l .deepest → Ordered e (level-row l i .w1)

@@ -23,7 +23,7 @@ use Rattle.cursors.specs.Cursors.{first-lo, next-lo}
 use Rattle.sweep.specs.Sweeps.{heads, to-come, Sweeping, Stepped}
 use Rattle.sweep.proofs.Seeks.{seek-says, seek-first}
 use Rattle.sweep.proofs.Coming.{points-before, ranges-before, says-at, says-same}
-use Rattle.sweep.proofs.Heads.{level-within, slot-there, slot-ordered, slot-key}
+use Rattle.sweep.proofs.Heads.{waits, level-within, slot-there, slot-ordered, slot-key, alone-points, alone-ranges}
 use Rattle.sweep.proofs.Steps.{Passing, stepped-on, stepped-found}
 
 -- The sweep with another slot, and another state.
@@ -35,6 +35,9 @@ moved m slot going alive key value stamp = record {
   level = m .level;
   slot = slot;
   bound = m .bound;
+  second = m .second;
+  waiting = m .waiting;
+  limit = m .limit;
   hi = m .hi;
   going = going;
   live = alive;
@@ -49,7 +52,7 @@ module _ {e : List ℕ} {m : Sweep} {k : ℕ} (s : Sweeping e m) (is : k ≡ nex
     where
       go : Dec (i ≡ m .level) → k ≤ next-lo e (heads m) i
       go (yes q) = rw q (omega arith)
-      go (no q) = omega (arith, s .others i h q)
+      go (no q) = omega (arith, alone-points e m s i h q)
 
   module _ (words : Words e) (le : k ≤ m .hi) where
     -- The slot is a point's, since no key past hi is the docket's.
@@ -72,9 +75,9 @@ module _ {e : List ℕ} {m : Sweep} {k : ℕ} (s : Sweeping e m) (is : k ≡ nex
         (m .level) (m .levels) 0 (omega arith) (s .inside)
         (λ i a b. (
           points-before e words (getD (heads m) i 0) k (s .ready .point-order i (omega (arith, s .inside)))
-              (omega (arith, s .others i (omega (arith, s .inside)) (λ q. omega arith))),
+              (omega (arith, alone-points e m s i (omega (arith, s .inside)) (λ q. omega arith))),
           ranges-before e words (getD (m .ranges) i 0) k (s .ready .range-order i (omega (arith, s .inside)))
-              (omega (arith, s .above i b)),
+              (omega (arith, alone-ranges e m s i b)),
         ))
 
     module _ (r : ℕ) (seeks : r ≡ first-slot (beginning e (k + 1) (chain-from e (m .slot)))) where
@@ -83,11 +86,11 @@ module _ {e : List ℕ} {m : Sweep} {k : ℕ} (s : Sweeping e m) (is : k ≡ nex
         after = moved m r going alive key value stamp
 
         r-there : getD (heads after) (m .level) 0 ≡ r
-        r-there = getD-set-same (m .points) (m .level) r 0 (level-within e m s)
+        r-there = getD-set-same (waits m) (m .level) r 0 (level-within e m s)
 
         other-there : (i : ℕ) → i ≢ m .level → getD (heads after) i 0 ≡ getD (heads m) i 0
         other-there i n =
-            getD-set-other (m .points) (m .level) i r 0 n ∙ sym (getD-set-other (m .points) (m .level) i (m .slot) 0 n)
+            getD-set-other (waits m) (m .level) i r 0 n ∙ sym (getD-set-other (waits m) (m .level) i (m .slot) 0 n)
 
         -- Each cursor before and after: the slot and the new one, or the same.
         each : (P : ℕ → ℕ → Type 0) (i : ℕ) → P (m .slot) r → (i ≢ m .level → P (getD (heads m) i 0) (getD (heads m) i 0))
@@ -102,7 +105,7 @@ module _ {e : List ℕ} {m : Sweep} {k : ℕ} (s : Sweeping e m) (is : k ≡ nex
         passing = record {
           sweeping = record {
             ready = record {
-              point-room = rw (length-set (m .points) (m .level) r, ← length-set (m .points) (m .level) (m .slot)) (s .ready .point-room);
+              point-room = rw (length-set (waits m) (m .level) r, ← length-set (waits m) (m .level) (m .slot)) (s .ready .point-room);
               range-room = s .ready .range-room;
               point-order = λ i h.
                   each (λ old new. Ordered e new) i
@@ -110,8 +113,13 @@ module _ {e : List ℕ} {m : Sweep} {k : ℕ} (s : Sweeping e m) (is : k ≡ nex
               range-order = s .ready .range-order;
             };
             inside = s .inside;
-            others = λ i h n. rw (other-there i n) (s .others i h n);
-            above = s .above;
+            second-inside = s .second-inside;
+            apart = s .apart;
+            within = s .within;
+            before-second = rw (other-there (m .second) (s .apart)) (s .before-second);
+            others = λ i h p q. rw (other-there i p) (s .others i h p q);
+            above-level = s .above-level;
+            above-second = s .above-second;
             last = s .last;
           };
           same-levels = refl;
@@ -119,7 +127,7 @@ module _ {e : List ℕ} {m : Sweep} {k : ℕ} (s : Sweeping e m) (is : k ≡ nex
           least = alone-least;
           begins = λ i h.
               each (λ old new. k + 1 ≤ first-lo e (chain-from e new)) i
-              (seek-first e (k + 1) (m .slot) (slot-ordered e m s) r seeks (omega (arith, s .last))) (λ n. omega (arith, s .others i h n));
+              (seek-first e (k + 1) (m .slot) (slot-ordered e m s) r seeks (omega (arith, s .last))) (λ n. omega (arith, alone-points e m s i h n));
           looks = λ j h.
               sym (says-same e (heads m) (m .ranges) j (heads after) (m .levels) 0
               (λ i a b. each (λ old new. points-say e old j ≡ points-say e new j) i

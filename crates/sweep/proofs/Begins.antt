@@ -6,7 +6,6 @@ use Prim.Native.Nat.{ℕ, _+_, _≤_}
 use native.Mathlib.Numerals.{add-one}
 use native.Mathlib.Omega.{arith}
 use lib.ListN.{length, getD}
-use lib.Seq.{set-getD}
 use Rattle.model.specs.Lookup.{lookup, live}
 use Rattle.tables.specs.Words.{settings-of}
 use Rattle.tables.specs.Placed.{read-state}
@@ -15,6 +14,7 @@ use Rattle.lookup.specs.Readable.{Readable}
 use Rattle.sweep.specs.declared.Sweep.{Sweep}
 use Rattle.cursors.specs.Cursors.{coming, Ready, Opened, Passed}
 use Rattle.sweep.specs.Sweeps.{Sweeping, rest}
+use Rattle.sweep.proofs.Heads.{unchanged}
 use Rattle.sweep.proofs.Live.{live-onward}
 use Rattle.sweep.proofs.Coming.{says-read}
 use Rattle.sweep.proofs.Steps.{none-before}
@@ -28,6 +28,9 @@ begun points ranges levels hi = record {
   level = 0;
   slot = getD points 0 0;
   bound = 0;
+  second = 1;
+  waiting = getD points 1 0;
+  limit = 0;
   hi = hi;
   going = true;
   live = false;
@@ -59,17 +62,22 @@ module _ {e l points ranges : List ℕ} (readable : Readable e l) (opened : Open
   module _ {points′ ranges′ : List ℕ} {lo : ℕ} (passed : Passed e lo points ranges points′ ranges′ levels) where
     pub begun-sweeping : (hi : ℕ) → hi ≤ 65535 → Sweeping e (begun points′ ranges′ levels hi)
     begun-sweeping hi le = record {
-      ready = rw (set-getD points′ 0 0) (passed .ready);
+      ready = rw (unchanged points′ 0 1) (passed .ready);
       inside = omega arith;
-      others = λ i h n. omega arith;
-      above = λ i h. omega arith;
+      second-inside = omega (arith, readable .deep);
+      apart = λ q. omega arith;
+      within = omega arith;
+      before-second = omega arith;
+      others = λ i h p q. omega arith;
+      above-level = λ i h. omega arith;
+      above-second = λ i h. omega arith;
       last = le;
     }
 
     pub begun-rest : Words e → (hi : ℕ) → lo ≤ hi
         → rest e (begun points′ ranges′ levels hi) ≡ live (lookup (read-state e l .levels)) lo hi
     begun-rest words hi le =
-        rw (set-getD points′ 0 0)
+        rw (unchanged points′ 0 1)
         (live-onward (lookup (coming e points′ ranges′ levels)) (lookup (read-state e l .levels)) lo hi
         (none-before e points′ ranges′ levels lo words (passed .ready) (passed .begins))
         (λ j h. passed .looks j h ∙ opened-looks j) (omega arith))

@@ -12,7 +12,7 @@ use Rattle.covers.proofs.Chains.{Words}
 use Rattle.sweep.specs.declared.Sweep.{Sweep}
 use Rattle.cursors.specs.Cursors.{coming, next-lo, least-lo, Ready}
 use Rattle.sweep.specs.Sweeps.{heads, to-come, Sweeping, Stepped, rest, rows-from, ahead}
-use Rattle.sweep.proofs.Heads.{Chosen}
+use Rattle.sweep.proofs.Heads.{Alike, told, told-sweeping}
 use Rattle.sweep.proofs.Live.{live-none, live-pass}
 use Rattle.sweep.proofs.Coming.{points-before, absent-all}
 
@@ -49,28 +49,11 @@ pub record Passing (e : List ℕ) (m r : Sweep) (k : ℕ) : Type 0 where
   pub begins : (i : ℕ) → i < m .levels → k + 1 ≤ next-lo e (heads r) i
   pub looks : (j : ℕ) → k + 1 ≤ j → lookup (to-come e r) j ≡ lookup (to-come e m) j
 
--- The sweep with no live docket left.
-abbrev stopped : Sweep → Sweep
-stopped m = record {
-  points = m .points;
-  ranges = m .ranges;
-  levels = m .levels;
-  level = m .level;
-  slot = m .slot;
-  bound = m .bound;
-  hi = m .hi;
-  going = false;
-  live = false;
-  key = m .key;
-  value = m .value;
-  stamp = m .stamp;
-}
-
 module _ {e : List ℕ} {m : Sweep} {k : ℕ} (words : Words e) (s : Sweeping e m) where
   -- The least docket to come is past hi.
-  pub stepped-none : ((i : ℕ) → i < m .levels → k ≤ next-lo e (heads m) i) → m .hi < k → Stepped e m (stopped m)
+  pub stepped-none : ((i : ℕ) → i < m .levels → k ≤ next-lo e (heads m) i) → m .hi < k → Stepped e m (told m false false)
   stepped-none least past = record {
-    sweeping = record { ready = s .ready; inside = s .inside; others = s .others; above = s .above; last = s .last };
+    sweeping = told-sweeping s;
     leads = live-none (lookup (to-come e m)) k (m .hi) (none-before e (heads m) (m .ranges) (m .levels) k words (s .ready) least) past;
     fewer = λ g. absurd (false≢true g);
   }
@@ -112,9 +95,9 @@ module _ {e : List ℕ} {m : Sweep} {k : ℕ} (words : Words e) (s : Sweeping e 
       fewer = λ g. both-false g stops;
     }
 
--- A step from the level that was chosen is a step.
-pub stepped-chosen : (e : List ℕ) (m c r : Sweep) → Chosen e m c → Stepped e c r → Stepped e m r
-stepped-chosen e m c r ch st = record {
+-- A step once other levels go on is a step.
+pub stepped-alike : (e : List ℕ) (m c r : Sweep) → Alike e m c → Stepped e c r → Stepped e m r
+stepped-alike e m c r ch st = record {
   sweeping = st .sweeping;
   leads = rw (← ch .same-heads, ← ch .same-ranges, ← ch .same-levels, ← ch .same-last) (st .leads);
   fewer = λ g. rw (← ch .same-heads, ← ch .same-levels) (st .fewer g);

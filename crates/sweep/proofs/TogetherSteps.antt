@@ -5,7 +5,6 @@ use mathlib.Core.List.{List}
 use Prim.Native.Nat.{ℕ, _+_, _<_, _≤_}
 use native.Mathlib.Omega.{arith}
 use lib.ListN.{getD}
-use lib.Seq.{set-getD}
 use Rattle.model.specs.Lookup.{absent, found, lookup}
 use Rattle.covers.proofs.Chains.{Words}
 use Rattle.lookup.specs.declared.Decided.{Decided}
@@ -13,6 +12,7 @@ use Rattle.lookup.specs.Answers.{settle}
 use Rattle.sweep.specs.declared.Sweep.{Sweep}
 use Rattle.cursors.specs.Cursors.{coming, next-lo, Passed}
 use Rattle.sweep.specs.Sweeps.{heads, to-come, Sweeping, Foremost, Stepped}
+use Rattle.sweep.proofs.Heads.{unchanged}
 use Rattle.sweep.proofs.Steps.{Passing, stepped-on, stepped-found}
 
 -- The sweep with other cursors, and another state; no level is alone.
@@ -24,6 +24,9 @@ regrouped m points ranges going alive key value stamp = record {
   level = m .level;
   slot = getD points (m .level) 0;
   bound = 0;
+  second = m .second;
+  waiting = getD points (m .second) 0;
+  limit = 0;
   hi = m .hi;
   going = going;
   live = alive;
@@ -40,13 +43,18 @@ module _ {e : List ℕ} {m : Sweep} {k : ℕ} (s : Sweeping e m) (is : k ≡ nex
       (le : k ≤ m .hi) where
     passing : (going alive : Bool) (key value stamp : ℕ) → Passing e m (regrouped m points ranges going alive key value stamp) k
     passing going alive key value stamp =
-        let same = set-getD points (m .level) 0 in
+        let same = unchanged points (m .level) (m .second) in
         record {
           sweeping = record {
             ready = rw same (p .ready);
             inside = s .inside;
-            others = λ i h n. omega arith;
-            above = λ i h. omega arith;
+            second-inside = s .second-inside;
+            apart = s .apart;
+            within = omega arith;
+            before-second = omega arith;
+            others = λ i h p q. omega arith;
+            above-level = λ i h. omega arith;
+            above-second = λ i h. omega arith;
             last = s .last;
           };
           same-levels = refl;

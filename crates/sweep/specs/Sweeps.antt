@@ -1,5 +1,6 @@
 -- A sweep over the levels: what it still has to come, and the rows of the live dockets among it.
 use mathlib.Core.Path.{_≡_}
+use mathlib.Core.Logic.{_≢_}
 use mathlib.Core.Bool.{true, cond}
 use mathlib.Core.List.{List, [], _∷_}
 use Prim.Native.Nat.{ℕ, _-_, _<_, _≤_}
@@ -9,21 +10,31 @@ use Rattle.model.specs.Records.{Level}
 use Rattle.cursors.specs.Cursors.{coming, next-lo, least-lo, Ready}
 use Rattle.sweep.specs.declared.Sweep.{Sweep}
 
--- The first point that each level still has to come; that of the level which goes on alone is the slot.
+-- The first point that each level still has to come; that of the level which goes on alone is the slot, and the second's waits.
 abbrev pub heads : Sweep → List ℕ
-heads m = set (m .points) (m .level) (m .slot)
+heads m = set (set (m .points) (m .second) (m .waiting)) (m .level) (m .slot)
 
 -- What the levels still have to come.
 abbrev pub to-come : List ℕ → Sweep → List (Level ℕ ℕ)
 to-come e m = coming e (heads m) (m .ranges) (m .levels)
 
--- The cursors can be followed; and before the bound no other level has a point, and no level above the slot's a range.
+-- The cursors can be followed; before the bound the second level has no point, and before the limit no other level a point, and no level above either of the two a
+-- range.
 pub record Sweeping (e : List ℕ) (m : Sweep) : Type 0 where
   pub ready : Ready e (heads m) (m .ranges) (m .levels)
   pub inside : m .level < m .levels
-  pub others : (i : ℕ) → i < m .levels → (i ≡ m .level → ⊥) → m .bound ≤ next-lo e (heads m) i
-  pub above : (i : ℕ) → i < m .level → m .bound ≤ next-lo e (m .ranges) i
+  pub second-inside : m .second < m .levels
+  pub apart : m .second ≢ m .level
+  pub within : m .bound ≤ m .limit
+  pub before-second : m .bound ≤ next-lo e (heads m) (m .second)
+  pub others : (i : ℕ) → i < m .levels → i ≢ m .level → i ≢ m .second → m .limit ≤ next-lo e (heads m) i
+  pub above-level : (i : ℕ) → i < m .level → m .limit ≤ next-lo e (m .ranges) i
+  pub above-second : (i : ℕ) → i < m .second → m .limit ≤ next-lo e (m .ranges) i
   pub last : m .hi ≤ 65535
+
+-- The second level goes on, alone before a bound, and the other waits.
+abbrev pub swapped : Sweep → ℕ → Sweep
+swapped m bound = record { points = m .points; ranges = m .ranges; levels = m .levels; level = m .second; slot = m .waiting; bound = bound; second = m .level; waiting = m .slot; limit = m .limit; hi = m .hi; going = m .going; live = m .live; key = m .key; value = m .value; stamp = m .stamp }
 
 -- The slot's key is the least to come, and the slot stands in its place among the cursors.
 pub record Foremost (e : List ℕ) (m : Sweep) : Type 0 where

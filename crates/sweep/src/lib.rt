@@ -1,8 +1,9 @@
 // The live dockets of sound tables in ascending order, one after the other. Each record is passed once: mostly one level goes on
-// alone for a while, and only where another level may have a say are all levels asked.
+// alone for a while, or two by turns, and only where another level may have a say are all levels asked.
 use covers::seek;
 use cursors::key_at;
-use cursors::leader;
+use cursors::leaders;
+use cursors::lesser;
 use cursors::look;
 use cursors::open;
 use cursors::pass;
@@ -18,15 +19,16 @@ ghost use Rattle.model.specs.Lookup.{lookup, live};
 ghost use Rattle.tables.specs.Placed.{read-state};
 ghost use Rattle.lookup.specs.Readable.{Readable};
 ghost use Rattle.cursors.specs.Cursors.{next-lo};
-ghost use Rattle.sweep.specs.Sweeps.{heads, Sweeping, Foremost, Stepped, rest, rows-from};
+ghost use Rattle.sweep.specs.Sweeps.{heads, swapped, Sweeping, Foremost, Stepped, rest, rows-from};
 
 // The kind of a put.
 const PUT: u32 = 1;
 
 // The first point and the first range that each of some levels still has to come; the level that goes on alone, its first point
-// (its slot), and the docket before which it is alone; the last docket that is asked for; whether the sweep is still on its way to
-// a live docket, and the one that it has come to, if it has. Numbers that are written together do not stand side by side: read as
-// one word before they have reached memory, they would have to be waited for.
+// (its slot), and the docket before which it is alone; a second level, its first point (which waits), and the docket before which
+// the two are alone; the last docket that is asked for; whether the sweep is still on its way to a live docket, and the one that it
+// has come to, if it has. Numbers that are written together do not stand side by side: read as one word before they have reached
+// memory, they would have to be waited for.
 pub struct Sweep {
     pub slot: usize,
     pub points: [usize; 7],
@@ -40,6 +42,9 @@ pub struct Sweep {
     pub stamp: u32,
     pub hi: u32,
     pub bound: u32,
+    pub limit: u32,
+    pub waiting: usize,
+    pub second: usize,
 }
 
 // Comes to the first live docket from lo to hi.
@@ -56,6 +61,7 @@ pub fn begin(e: &[u32], l: &[u32], lo: u32, hi: u32) -> Sweep
     open(l, &mut points, &mut ranges);
     pass(e, &mut points, &mut ranges, levels, lo);
     let slot = points[0];
+    let waiting = points[1];
     let m = Sweep {
         points: points,
         ranges: ranges,
@@ -63,6 +69,9 @@ pub fn begin(e: &[u32], l: &[u32], lo: u32, hi: u32) -> Sweep
         level: 0,
         slot: slot,
         bound: 0,
+        second: 1,
+        waiting: waiting,
+        limit: 0,
         hi: hi,
         going: true,
         live: false,
@@ -84,6 +93,9 @@ pub fn ended() -> Sweep
         level: 0,
         slot: 0,
         bound: 0,
+        second: 1,
+        waiting: 0,
+        limit: 0,
         hi: 0,
         going: false,
         live: false,
@@ -107,7 +119,7 @@ pub fn advance(e: &[u32], m: Sweep) -> Sweep
     r
 }
 
-// One docket: by the level that goes on alone, or by another.
+// One docket: by the level that goes on alone, by the second, or by another.
 fn step(e: &[u32], m: Sweep) -> Sweep
     requires { ⌜ Sweeping (now e) m ⌝ }
     requires { ⌜ m .going ≡ true ⌝ }
@@ -117,7 +129,25 @@ fn step(e: &[u32], m: Sweep) -> Sweep
     if key < m.bound {
         return go_alone(e, m, key);
     }
+    let next = key_at(e, m.waiting);
+    let bound = lesser(key, m.limit);
+    if next < bound {
+        return go_alone(e, swap(m, bound), next);
+    }
     change_level(e, m)
+}
+
+// The second level goes on, and the other waits: no cursor is written, so that two levels can go by turns at no cost.
+fn swap(m: Sweep, bound: u32) -> Sweep
+    ensures { λ r. ⌜ r ≡ swapped m bound ⌝ }
+{
+    let mut r = m;
+    r.slot = m.waiting;
+    r.level = m.second;
+    r.waiting = m.slot;
+    r.second = m.level;
+    r.bound = bound;
+    r
 }
 
 // One docket by a level that has the least key to come: alone, if it can, or with all the others.
@@ -128,15 +158,21 @@ fn change_level(e: &[u32], m: Sweep) -> Sweep
 {
     let mut points = m.points;
     let ranges = m.ranges;
-    let from = m.level;
-    points[from] = m.slot;
-    let a = leader(e, &points, &ranges, m.levels);
-    let to = a.level;
+    let second = m.second;
+    points[second] = m.waiting;
+    let first = m.level;
+    points[first] = m.slot;
+    let a = leaders(e, &points, &ranges, m.levels);
+    let level = a.level;
+    let other = a.second;
     let mut c = m;
     c.points = points;
-    c.level = to;
-    c.slot = points[to];
+    c.level = level;
+    c.slot = points[level];
     c.bound = a.bound;
+    c.second = other;
+    c.waiting = points[other];
+    c.limit = a.limit;
     let key = key_at(e, c.slot);
     if key < c.bound {
         return go_alone(e, c, key);
@@ -194,20 +230,24 @@ fn go_together(e: &[u32], m: Sweep, key: u32) -> Sweep
 // Other cursors; no level is alone.
 fn regroup(m: Sweep, points: [usize; 7], ranges: [usize; 7]) -> Sweep
     requires { ⌜ m .level < 7 ⌝ }
-    ensures { λ r. ⌜ r ≡ record { points = points; ranges = ranges; levels = m .levels; level = m .level; slot = getD points (m .level) 0; bound = 0; hi = m .hi; going = m .going; live = m .live; key = m .key; value = m .value; stamp = m .stamp } ⌝ }
+    requires { ⌜ m .second < 7 ⌝ }
+    ensures { λ r. ⌜ r ≡ record { points = points; ranges = ranges; levels = m .levels; level = m .level; slot = getD points (m .level) 0; bound = 0; second = m .second; waiting = getD points (m .second) 0; limit = 0; hi = m .hi; going = m .going; live = m .live; key = m .key; value = m .value; stamp = m .stamp } ⌝ }
 {
     let level = m.level;
+    let second = m.second;
     let mut r = m;
     r.points = points;
     r.ranges = ranges;
     r.slot = points[level];
     r.bound = 0;
+    r.waiting = points[second];
+    r.limit = 0;
     r
 }
 
 // The sweep has come to a live docket.
 fn found(m: Sweep, key: u32, value: u32, stamp: u32) -> Sweep
-    ensures { λ r. ⌜ r ≡ record { points = m .points; ranges = m .ranges; levels = m .levels; level = m .level; slot = m .slot; bound = m .bound; hi = m .hi; going = false; live = true; key = key; value = value; stamp = stamp } ⌝ }
+    ensures { λ r. ⌜ r ≡ record { points = m .points; ranges = m .ranges; levels = m .levels; level = m .level; slot = m .slot; bound = m .bound; second = m .second; waiting = m .waiting; limit = m .limit; hi = m .hi; going = false; live = true; key = key; value = value; stamp = stamp } ⌝ }
 {
     let mut r = m;
     r.going = false;
@@ -220,7 +260,7 @@ fn found(m: Sweep, key: u32, value: u32, stamp: u32) -> Sweep
 
 // No live docket is left.
 fn none(m: Sweep) -> Sweep
-    ensures { λ r. ⌜ r ≡ record { points = m .points; ranges = m .ranges; levels = m .levels; level = m .level; slot = m .slot; bound = m .bound; hi = m .hi; going = false; live = false; key = m .key; value = m .value; stamp = m .stamp } ⌝ }
+    ensures { λ r. ⌜ r ≡ record { points = m .points; ranges = m .ranges; levels = m .levels; level = m .level; slot = m .slot; bound = m .bound; second = m .second; waiting = m .waiting; limit = m .limit; hi = m .hi; going = false; live = false; key = m .key; value = m .value; stamp = m .stamp } ⌝ }
 {
     let mut r = m;
     r.going = false;

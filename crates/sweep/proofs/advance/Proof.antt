@@ -1,6 +1,7 @@
 -- `sweep::advance` meets its contract. The loop's invariant: the sweep lists what it had to come.
 use mathlib.Core.Path.{_≡_, refl, _∙_}
 use Rattle.sweep.specs.Sweeps.{Sweeping, rest}
+use Rattle.sweep.proofs.Heads.{told-sweeping}
 use Rattle.sweep.proofs.Steps.{listed, steps-left, listed-same, fewer-steps}
 use Rattle.sweep.proofs.advance.Statement.{statement}
 use Rattle.sweep.proofs.advance.Tie as tie
@@ -12,9 +13,7 @@ abbrev μ-loop : tie.MeasureT-loop
 μ-loop e r₀ r = steps-left e r
 
 loop-holds : tie.Need-loop-holds Inv-loop μ-loop
-loop-holds c =
-    let s = c .before .pre in
-    (record { ready = s .ready; inside = s .inside; others = s .others; above = s .above; last = s .last }, refl)
+loop-holds c = (told-sweeping (c .before .pre), refl)
 
 step-requires : tie.Need-step-requires Inv-loop μ-loop
 step-requires c κs = (c .before .loop .inv .0, c .loop-test .taken)

@@ -44,6 +44,9 @@ pass-requires c κs =
 array-read-slot : tie.Need-array-read-slot
 array-read-slot c = search needs
 
+array-read-waiting : tie.Need-array-read-waiting
+array-read-waiting c = search needs
+
 advance-requires : tie.Need-advance-requires
 advance-requires c κs =
     let a = c .before .before in
@@ -76,5 +79,6 @@ begin-spec =
     slice-aggregate-pass-2
     pass-requires
     array-read-slot
+    array-read-waiting
     advance-requires
     returns)

@@ -1,31 +1,33 @@
--- `cursors::leader` meets its contract. The loop's invariant: what is carried is known of the levels before i.
+-- `cursors::leaders` meets its contract. The loop's invariant: what is carried is known of the levels before i.
 use mathlib.Core.Path.{refl}
 use Prim.Native.Nat.{_-_, _≤_}
 use native.Mathlib.Omega.{arith}
 use Rattle.cursors.proofs.Leading.{Led, led-first, led-on, led-leads}
-use Rattle.cursors.proofs.leader.Statement.{statement}
-use Rattle.cursors.proofs.leader.Tie as tie
+use Rattle.cursors.proofs.leaders.Statement.{statement}
+use Rattle.cursors.proofs.leaders.Tie as tie
 
 abbrev Inv-loop : tie.InvT-loop
-Inv-loop e points ranges levels m₀ i₀ m i = (i ≤ levels) × Led e points ranges i m
+Inv-loop e points ranges levels above m₀ i₀ m i = (i ≤ levels) × Led e points ranges levels i m
 
 abbrev μ-loop : tie.MeasureT-loop
-μ-loop e points ranges levels m₀ i₀ m i = levels - i
+μ-loop e points ranges levels above m₀ i₀ m i = levels - i
 
 shared-slice-read-key-at : tie.Need-shared-slice-read-key-at Inv-loop μ-loop
-shared-slice-read-key-at c = omega (arith, c .before .before .before .before .pre .0 .point-room)
+shared-slice-read-key-at c = let pre = c .before .before .before .before .pre in omega (arith, pre .0 .range-room, pre .1)
 
 key-at-requires : tie.Need-key-at-requires Inv-loop μ-loop
-key-at-requires c κs = let pre = c .before .before .before .before .pre in pre .0 .point-order 0 (pre .1)
+key-at-requires c κs = let pre = c .before .before .before .before .pre in pre .0 .range-order 0 (omega (arith, pre .1))
 
 shared-slice-read-key-at-2 : tie.Need-shared-slice-read-key-at-2 Inv-loop μ-loop
-shared-slice-read-key-at-2 c = omega (arith, c .before .before .before .before .before .before .pre .0 .range-room)
+shared-slice-read-key-at-2 c = let pre = c .before .before .before .before .before .before .pre in omega (arith, pre .0 .point-room, pre .1)
 
 key-at-requires-2 : tie.Need-key-at-requires-2 Inv-loop μ-loop
-key-at-requires-2 c κs = let pre = c .before .before .before .before .before .before .pre in pre .0 .range-order 0 (pre .1)
+key-at-requires-2 c κs = let pre = c .before .before .before .before .before .before .pre in pre .0 .point-order 0 (omega (arith, pre .1))
 
 loop-holds : tie.Need-loop-holds Inv-loop μ-loop
-loop-holds c = (omega arith, led-first _ _ _ _ _ refl refl (c .before .before .key-at .ensures) (c .key-at2 .ensures))
+loop-holds c =
+    let pre = c .before .before .before .before .before .before .before .pre in
+    (omega (arith, pre .1), led-first _ _ _ _ _ _ (pre .1) refl refl refl (c .key-at2 .ensures) (c .before .before .key-at .ensures) (c .before .before .key-at .ensures))
 
 mul-key-at : tie.Need-mul-key-at Inv-loop μ-loop
 mul-key-at c = omega arith
@@ -55,17 +57,21 @@ loop-less : tie.Need-loop-less Inv-loop μ-loop
 loop-less c = omega arith
 
 loop-again : tie.Need-loop-again Inv-loop μ-loop
-loop-again c = (
-  omega arith,
-  led-on _ _ _ _ _ (c .before .before .before .before .before .before .loop .inv .1) _ _ _ _ (omega arith) (c .before .before .before .key-at3 .ensures) (c .before .key-at4 .ensures)
-      (c .lead-next .ensures),
-)
+loop-again c =
+    let t = c .before .before .before .before .before in (
+      omega arith,
+      led-on _ _ _ _ _ _ (t .before .loop .inv .1) _ _ _ _ (t .loop-test .taken) (omega arith) (c .before .before .before .key-at3 .ensures) (c .before .key-at4 .ensures)
+          (c .lead-next .ensures),
+    )
+
+lesser-requires : tie.Need-lesser-requires Inv-loop μ-loop
+lesser-requires c κs = tt
 
 returns : tie.Need-returns Inv-loop μ-loop
-returns c = led-leads _ _ _ _ _ (c .before .loop .inv .1) _ _ (omega arith) refl refl
+returns c = led-leads _ _ _ _ _ _ (c .before .before .loop .inv .1) _ (omega arith) refl refl (c .lesser .ensures) refl
 
-pub leader-spec : {M : Type 1} → statement M
-leader-spec =
+pub leaders-spec : {M : Type 1} → statement M
+leaders-spec =
     tie.close
     (tie.spec
     Inv-loop
@@ -85,4 +91,5 @@ leader-spec =
     add-i
     loop-less
     loop-again
+    lesser-requires
     returns)
