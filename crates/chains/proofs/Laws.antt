@@ -73,9 +73,6 @@ module _ (n clock : ℕ) (free : List ℕ) where
   pub no-chain : (chains : List (List Cell)) (e : List ℕ) → Held n clock free ([] ∷ chains) e → Held n clock free chains e
   no-chain chains e = rearranged ([] ∷ chains) chains e (λ f. omega (arith, sum-none f)) (λ c. c .1)
 
-  pub new-chain : (chains : List (List Cell)) (e : List ℕ) → Held n clock free chains e → Held n clock free ([] ∷ chains) e
-  new-chain chains e = rearranged chains ([] ∷ chains) e (λ f. omega (arith, sum-none f)) (λ c. (tt, c))
-
   -- The same of a cell of the second chain.
   pub rewritten : (a done : List Cell) (c c′ : Cell) (cs : List Cell) (others : List (List Cell)) (e e′ : List ℕ) → Held n clock free (a ∷ (done ++ c ∷ cs) ∷ others) e
       → c′ .slot ≡ c .slot → length e′ ≡ length e → Off (c .slot) e e′ → row-of e′ 0 ≡ row-of e 0 → row-of e′ (c .slot) ≡ cell-row (head cs) c′

@@ -3,7 +3,7 @@ use mathlib.Core.Path.{_≡_, refl, ap, _∙_}
 use Prim.Native.Nat.{ℕ, zero, suc, _+_, _-_, _*_, _<_, _≤_}
 use native.Mathlib.Omega.{arith}
 use lib.ListN.{length}
-use Rattle.tables.specs.Words.{row-of, slots-of}
+use Rattle.tables.specs.Words.{row-of}
 use Rattle.make.specs.Make.{next-free, free-row, free-words, made-entries}
 use Rattle.tables.proofs.Rows.{row-rest}
 
@@ -26,9 +26,6 @@ module _ (n : ℕ) where
   pub length-made-entries : length (made-entries n) ≡ 4 * (n + 1)
   unfolding made-entries
   length-made-entries = omega (arith, length-free-words n 1 n)
-
-  pub slots-made-entries : slots-of (made-entries n) ≡ n
-  slots-made-entries = omega (arith, length-made-entries)
 
   -- The first free slot is 1, the clock 0.
   pub made-entries-first : row-of (made-entries n) 0 ≡ record { w0 = 1; w1 = 0; w2 = 0; w3 = 0 }

@@ -20,6 +20,7 @@ use Rattle.tables.proofs.Cells.{Chained, AllChained, Holds, times}
 use Rattle.tables.proofs.Once.{facts-once}
 use Rattle.tables.proofs.Lay.{top-row}
 use Rattle.tables.proofs.Back.{formed-words, holds-reads}
+use Rattle.tables.proofs.FormedLevels.{empty-formed}
 use Rattle.tables.proofs.FormedSound.{facts-sound, formed-sound}
 use Rattle.make.specs.Make.{next-free, made-entries, made-levels, count-up, upto}
 use Rattle.make.proofs.Entries.{length-made-entries, made-entries-first, made-entries-row}
@@ -47,21 +48,7 @@ times-within x (suc k) s low high = go (ℕ-discrete x s) (times-within x k (suc
     go (yes q) ih = rw (eq-eqb x s q) (omega (arith, times-below x k (suc s) (omega arith)))
     go (no q) ih = rw (ne-eqb x s q) (omega (arith, ih (omega arith) (omega arith)))
 
--- Levels without records are formed, and have neither slots nor chains.
-empty-formed : LevelFormed {S = ℕ} {A = ℕ} 0 empty
-empty-formed = record {
-  keys = tt;
-  points-ascend = tt;
-  spans = tt;
-  ranges-ascend = tt;
-  point-stamps = tt;
-  range-stamps = tt;
-  owed-clock = omega arith;
-  owed-points = tt;
-  owed-ranges = tt;
-  owed-empty = λ q. refl;
-}
-
+-- Levels without records have neither slots nor chains.
 no-slots : (k : ℕ) → levels-slots {S = ℕ} {A = ℕ} (replicate k empty) ≡ []
 no-slots zero = refl
 no-slots (suc k) = no-slots k
@@ -113,7 +100,7 @@ module _ (n : ℕ) (s : Settings) (low : 1 ≤ n) (high : n ≤ 65535) (a : allo
     many = high;
     settings-ok = a;
     size = length-replicate (suc (s .deepest)) empty;
-    levels-ok = all-replicate (LevelFormed 0) (suc (s .deepest)) empty empty-formed;
+    levels-ok = all-replicate (LevelFormed 0) (suc (s .deepest)) empty (empty-formed 0);
     deepest-owes-nothing = ap (λ (l : Level ℕ ℕ). l .owed) (getD-empty (suc (s .deepest)) (s .deepest));
     slots-once =
         rw (no-slots (suc (s .deepest)), append-nil)

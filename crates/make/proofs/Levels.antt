@@ -36,10 +36,6 @@ module _ (s : Settings) where
   unfolding made-levels
   made-levels-first = refl
 
-  pub made-levels-settings : settings-of (made-levels s) ≡ s
-  unfolding made-levels
-  made-levels-settings = refl
-
   -- Every other row is zero.
   pub made-levels-row : (i : ℕ) → level-row (made-levels s) i ≡ no-words
   unfolding made-levels

@@ -9,7 +9,7 @@ use borrow.Author.Tests.{eqb-true, eqb-false, not-true}
 use Rattle.lists.specs.Lists.{any, select, reject}
 use Rattle.lists.specs.All.{All}
 use Rattle.lists.proofs.Bools.{cond-elim, by-cases, both-false}
-use Rattle.lists.proofs.Tests.{all-select, all-weaken}
+use Rattle.lists.proofs.Tests.{all-select}
 use Rattle.lists.proofs.Merges.{all-merge, any-merge}
 use Rattle.model.specs.Records.{Entry, value, tombstone, Point, Level, is-put}
 use Rattle.model.specs.Merge.{covered, names, point-before, point-goes, earlier, merged, settled, joined}
@@ -43,9 +43,6 @@ module _ {S A : Type 0} where
 
   abbrev pub KeyedLevel : ℕ → Level S (Mark A) → Type 0
   KeyedLevel k l = All (Keyed k) (l .points)
-
-  pub clean-keyed : (k : ℕ) (l : Level S (Mark A)) → CleanLevel l → KeyedLevel k l
-  clean-keyed k l a = all-weaken _ _ (λ p c m. both-false m c) (l .points) a
 
 -- A level has a point or a range over docket k.
 abbrev pub reaches : {S A : Type 0} → Level S A → ℕ → Bool

@@ -45,6 +45,3 @@ module _ (s : Settings) (a : Allowed s) (i : ℕ) (h : i < s .deepest) where
   pub limit-product-fits : s .term * (power s i - 1) ≤ 4294967295 * 100000
   limit-product-fits =
       mul-le-mul {n₂ = 4294967295} {m₂ = 100000} (a .term-high) (omega (arith, power-fits s a i h))
-
-  pub limit-fits : limit s i ≤ 4294967295
-  limit-fits = le-trans (limit-term s (a .ratio-low) (a .deepest-low) i h) (a .term-high)

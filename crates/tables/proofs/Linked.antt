@@ -3,7 +3,7 @@ use mathlib.Core.Path.{_≡_, refl, sym, ap, _∙_}
 use mathlib.Core.Logic.{_≢_}
 use mathlib.Core.Bool.{true, cond, _&&_, _||_}
 use mathlib.Core.List.{List, [], _∷_, map}
-use Prim.Native.Nat.{ℕ, zero, suc, _+_, _*_, _<_, _≤_}
+use Prim.Native.Nat.{ℕ, zero, suc, _<_, _≤_}
 use native.Mathlib.Omega.{arith}
 use native.Mathlib.Decide.{ℕ-discrete}
 use lib.Dec.{eqb, leb}
@@ -52,12 +52,6 @@ linked-chained n e cell own h (s ∷ ss) c i r =
 
 -- Each form is the row of what it reads as.
 module _ (e : List ℕ) (s : ℕ) where
-  whole0 : row-of e s .w0 ≡ next-of e s + 65536 * kind-of e s
-  whole0 = omega arith
-
-  whole1 : row-of e s .w1 ≡ lo-of e s + 65536 * hi-of e s
-  whole1 = omega arith
-
   rebuilt : (r : Row) → row-of e s .w0 ≡ r .w0 → row-of e s .w1 ≡ r .w1 → row-of e s .w2 ≡ r .w2 → row-of e s .w3 ≡ r .w3 → row-of e s ≡ r
   rebuilt r a b c d = rw (a, b, c, d)
 
