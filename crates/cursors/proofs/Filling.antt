@@ -1,13 +1,16 @@
 -- Lists whose elements are set one after the other, from the first on.
-use mathlib.Core.Path.{_≡_, refl, ap, _∙_}
+use mathlib.Core.Path.{_≡_, refl, sym, ap, _∙_}
 use mathlib.Core.List.{List}
 use Prim.Native.Nat.{ℕ, suc, _<_, _≤_}
+use native.Mathlib.Nat.{zero-add}
 use native.Mathlib.Omega.{arith}
-use borrow.Author.Tests.{eqb-true, eqb-false}
-use lib.Dec.{eqb}
+use borrow.Author.Tests.{eqb-true, eqb-false, ltb-true, ltb-false}
+use lib.Dec.{eqb, ltb}
 use lib.ListN.{length, getD, set, length-set}
-use lib.Seq.{getD-set-same, getD-set-other}
+use lib.Seq.{getD-set-same, getD-set-other, ext-getD}
 use Rattle.lists.proofs.Bools.{by-cases}
+use Rattle.lists.proofs.Loops.{iterate-holds}
+use Rattle.cursors.specs.Cursors.{change}
 
 -- The elements before i have the values given, and the others are as they were.
 pub record Filled (value : ℕ → ℕ) (i : ℕ) (old new : List ℕ) : Type 0 where
@@ -30,8 +33,23 @@ module _ (value : ℕ → ℕ) where
   })
 
 -- Each value is given by the element that it takes the place of.
-module _ (front : ℕ → ℕ) (i n : ℕ) (old new next : List ℕ) where
-  pub fill-on : n ≡ suc i → i < length old → next ≡ set new i (front (getD new i 0))
-      → Filled (λ j. front (getD old j 0)) i old new → Filled (λ j. front (getD old j 0)) n old next
-  fill-on n≡ lt is f =
-      fill-next (λ j. front (getD old j 0)) i n old new next n≡ lt (is ∙ ap (λ (x : ℕ). set new i (front x)) (f .others i (omega arith))) f
+module _ (f : ℕ → ℕ → ℕ) where
+  pub fill-on : (i n : ℕ) (old new next : List ℕ) → n ≡ suc i → i < length old → next ≡ set new i (f i (getD new i 0))
+      → Filled (λ j. f j (getD old j 0)) i old new → Filled (λ j. f j (getD old j 0)) n old next
+  fill-on i n old new next n≡ lt is fs =
+      fill-next (λ j. f j (getD old j 0)) i n old new next n≡ lt (is ∙ ap (λ (x : ℕ). set new i (f i x)) (fs .others i (omega arith))) fs
+
+  -- So it is with all that are changed; and nothing else is so.
+  pub changed : (n : ℕ) (old : List ℕ) → n ≤ length old → Filled (λ j. f j (getD old j 0)) n old (change f n old)
+  changed n old le =
+      rw (zero-add n) at
+      (iterate-holds (λ i cs. set cs i (f i (getD cs i 0))) (λ i cs. Filled (λ j. f j (getD old j 0)) i old cs) n 0 old
+      (λ i cs _ lt h. fill-on i (suc i) old cs _ refl (omega arith) refl h) (fill-none (λ j. f j (getD old j 0)) old 0 refl))
+
+  pub filled-change : (n : ℕ) (old new : List ℕ) → n ≤ length old → Filled (λ j. f j (getD old j 0)) n old new → new ≡ change f n old
+  filled-change n old new le fs =
+      let cs = changed n old le in
+      ext-getD 0 new (change f n old) (fs .same-length ∙ sym (cs .same-length))
+      (λ i lt. by-cases (ltb i n)
+      (λ p. fs .before i (ltb-true i n p) ∙ sym (cs .before i (ltb-true i n p)))
+      (λ p. fs .others i (ltb-false i n p) ∙ sym (cs .others i (ltb-false i n p))))

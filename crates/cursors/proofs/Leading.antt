@@ -1,16 +1,31 @@
--- What is known of the leading level while the levels are gone through.
-use mathlib.Core.Path.{_≡_, refl, sym, _∙_}
+-- The two levels that lead: what is known of them, and of the two so far while the levels are gone through.
+use mathlib.Core.Path.{_≡_, refl, _∙_}
 use mathlib.Core.Logic.{_≢_}
 use mathlib.Core.Bool.{false}
 use mathlib.Core.List.{List}
-use Prim.Native.Nat.{ℕ, suc, _<_, _≤_, min}
+use Prim.Native.Nat.{ℕ, suc, _+_, _-_, _<_, _≤_, min}
 use native.Mathlib.Omega.{arith}
 use borrow.Author.Tests.{eqb-true, eqb-false, ltb-true, ltb-false}
 use lib.Dec.{eqb, ltb}
+use Rattle.lists.specs.Lists.{iterate}
 use Rattle.lists.proofs.Bools.{by-cases, cond-elim}
+use Rattle.lists.proofs.Loops.{iterate-holds}
 use Rattle.cursors.specs.declared.Lead.{Lead}
 use Rattle.cursors.specs.declared.Pair.{Pair}
-use Rattle.cursors.specs.Cursors.{next-lo, led, Leads}
+use Rattle.cursors.specs.Cursors.{next-lo, led, leading}
+
+-- Of n levels, two: one with the least key to come, which is alone before the bound, and a second; before the limit no other level has a point, and no level above
+-- either of them a range.
+pub record Leads (e points ranges : List ℕ) (n : ℕ) (a : Pair) : Type 0 where
+  pub inside : a .level < n
+  pub second-inside : a .second < n
+  pub apart : a .second ≢ a .level
+  pub least : (i : ℕ) → i < n → next-lo e points (a .level) ≤ next-lo e points i
+  pub within : a .bound ≤ a .limit
+  pub before-second : a .bound ≤ next-lo e points (a .second)
+  pub others : (i : ℕ) → i < n → i ≢ a .level → i ≢ a .second → a .limit ≤ next-lo e points i
+  pub above-level : (i : ℕ) → i < a .level → a .limit ≤ next-lo e ranges i
+  pub above-second : (i : ℕ) → i < a .second → a .limit ≤ next-lo e ranges i
 
 -- Of the levels before i: the leading one's key and the least of the others, and where the first of their ranges begins. The second is one of the n levels.
 pub record Led (e points ranges : List ℕ) (n i : ℕ) (m : Lead) : Type 0 where
@@ -30,20 +45,25 @@ up-to : (P : ℕ → Type 0) (i : ℕ) → ((j : ℕ) → j < i → P j) → P i
 up-to P i h p j lt = by-cases (eqb j i) (λ q. rw (eqb-true j i q) p) (λ q. h j (omega (arith, eqb-false j i q)))
 
 module _ (e points ranges : List ℕ) (n : ℕ) where
-  pub led-first : (m : Lead) (i : ℕ) → 1 < n → i ≡ 1 → m .level ≡ 0 → m .second ≡ 1 → m .least ≡ next-lo e points 0 → m .bound ≡ next-lo e ranges 0
-      → m .above ≡ next-lo e ranges 0 → Led e points ranges n i m
-  led-first m i more one z s p b r = rw one (record {
+  abbrev pub lead-step : ℕ → Lead → Lead
+  lead-step i m = led m i (next-lo e points i) (next-lo e ranges i)
+
+  abbrev first : Lead
+  first = record { level = 0; second = 1; least = next-lo e points 0; next = 65536; bound = next-lo e ranges 0; above = next-lo e ranges 0 }
+
+  led-first : 1 < n → Led e points ranges n 1 first
+  led-first more = record {
     inside = omega arith;
-    second-inside = omega arith;
+    second-inside = more;
     apart = λ q. omega arith;
-    own = rw z p;
-    least = up-to (λ j. m .least ≤ next-lo e points j) 0 (λ j lt. absurd (omega arith)) (omega arith);
+    own = refl;
+    least = up-to (λ j. next-lo e points 0 ≤ next-lo e points j) 0 (λ j lt. absurd (omega arith)) (omega arith);
     next = λ j lt other. absurd (other (omega arith));
     others = λ j lt other _. absurd (other (omega arith));
     above-level = λ j lt. absurd (omega arith);
-    above-second = λ j lt. up-to (λ j. m .bound ≤ next-lo e ranges j) 0 (λ j lt. absurd (omega arith)) (omega arith) j (omega arith);
-    ranges-least = up-to (λ j. m .above ≤ next-lo e ranges j) 0 (λ j lt. absurd (omega arith)) (omega arith);
-  })
+    above-second = up-to (λ j. next-lo e ranges 0 ≤ next-lo e ranges j) 0 (λ j lt. absurd (omega arith)) (omega arith);
+    ranges-least = up-to (λ j. next-lo e ranges 0 ≤ next-lo e ranges j) 0 (λ j lt. absurd (omega arith)) (omega arith);
+  }
 
   module _ (m : Lead) (i : ℕ) (l : Led e points ranges n i m) where
     ranges-next : (j : ℕ) → j < suc i → min (m .above) (next-lo e ranges i) ≤ next-lo e ranges j
@@ -99,21 +119,33 @@ module _ (e points ranges : List ℕ) (n : ℕ) where
         least-on : ltb (next-lo e points i) (m .least) ≡ false → (j : ℕ) → j < suc i → m .least ≤ next-lo e points j
         least-on p = up-to (λ j. m .least ≤ next-lo e points j) i (l .least) (ltb-false (next-lo e points i) (m .least) p)
 
-    -- One turn, in the code's words.
-    pub led-on : (k p r : ℕ) (m′ : Lead) → i < n → k ≡ suc i → p ≡ next-lo e points i → r ≡ next-lo e ranges i → m′ ≡ led m i p r
-        → Led e points ranges n k m′
-    led-on k p r m′ lt k≡ p≡ r≡ is = rw (is, k≡, p≡, r≡) (led-next lt)
+  -- One turn of the loop leaves what is still to be done.
+  pub lead-turn : (i j p r : ℕ) (m m′ : Lead) → i < n → j ≡ suc i → p ≡ next-lo e points i → r ≡ next-lo e ranges i → m′ ≡ led m i p r
+      → iterate lead-step j (n - j) m′ ≡ iterate lead-step i (n - i) m
+  unfolding iterate
+  lead-turn i j p r m m′ lt j≡ p≡ r≡ is =
+      let left : n - i ≡ suc (n - suc i) = omega arith in
+      rw (is, j≡, p≡, r≡, left)
 
-    pub led-leads : (a : Pair) → n ≡ i → a .level ≡ m .level → a .second ≡ m .second → a .bound ≡ min (m .next) (m .bound) → a .limit ≡ m .bound
-        → Leads e points ranges n a
-    led-leads a n≡ level≡ second≡ bound≡ pair≡ = record {
-      inside = omega (arith, l .inside);
-      second-inside = omega (arith, l .second-inside);
-      apart = λ q. l .apart (sym second≡ ∙ q ∙ level≡);
-      least = λ j lt. rw (level≡, ← (l .own)) (l .least j (omega arith));
-      within = omega arith;
-      before-second = rw second≡ (omega (arith, l .next (m .second) (omega (arith, l .second-inside)) (l .apart)));
-      others = λ j lt p q. rw pair≡ (l .others j (omega arith) (λ r. p (r ∙ sym level≡)) (λ r. q (r ∙ sym second≡)));
-      above-level = λ j lt. rw pair≡ (l .above-level j (omega arith));
-      above-second = λ j lt. rw pair≡ (l .above-second j (omega arith));
-    }
+  pub lead-end : (i : ℕ) (m : Lead) → n ≤ i → iterate lead-step i (n - i) m ≡ m
+  unfolding iterate
+  lead-end i m le =
+      let none : n - i ≡ 0 = omega arith in
+      rw none
+
+  -- The two that the definition names lead.
+  pub leads : 1 < n → Leads e points ranges n (leading e points ranges n)
+  leads more =
+      let all : 1 + (n - 1) ≡ n = omega arith in
+      let l = rw all at (iterate-holds lead-step (Led e points ranges n) (n - 1) 1 first (λ i m _ lt h. led-next m i h (omega arith)) (led-first more)) in
+      record {
+        inside = l .inside;
+        second-inside = l .second-inside;
+        apart = l .apart;
+        least = λ j lt. rw (← (l .own)) (l .least j lt);
+        within = omega arith;
+        before-second = omega (arith, l .next _ (l .second-inside) (l .apart));
+        others = l .others;
+        above-level = l .above-level;
+        above-second = l .above-second;
+      }

@@ -1,5 +1,6 @@
 -- Laws of cursors.
 pub mod Filling
+pub mod Opening
 pub mod Looking
 pub mod Passing
 pub mod Leading

@@ -11,13 +11,13 @@ use Rattle.model.specs.Lookup.{lookup}
 use Rattle.tables.specs.Words.{lo-of, hi-of}
 use Rattle.tables.specs.Sound.{chain-from}
 use Rattle.tables.specs.Placed.{read-point}
-use Rattle.covers.specs.Skips.{drop-while, first-slot, beginning, reaching}
+use Rattle.covers.specs.Skips.{drop-while, beginning}
 use Rattle.covers.specs.Walks.{Ordered}
 use Rattle.covers.proofs.Skips.{front-chain, front-ordered, skip-says}
 use Rattle.lookup.specs.Answers.{decides, level-decides}
 use Rattle.lookup.proofs.Answers.{lookup-decides}
-use Rattle.cursors.specs.Cursors.{levels-from, first-lo, Ready, Passed}
-use Rattle.cursors.proofs.Filling.{Filled}
+use Rattle.cursors.specs.Cursors.{levels-from, coming, first-lo, next-lo, change, point-front, range-front, Ready}
+use Rattle.cursors.proofs.Filling.{Filled, changed}
 use Rattle.cursors.proofs.Looking.{level-at}
 
 module _ (e : List ℕ) (k : ℕ) where
@@ -40,13 +40,6 @@ module _ (e : List ℕ) (k : ℕ) where
       cond-elim (λ l. k ≤ first-lo e l) (ltb (lo-of e s) k) (beginning e k ss) (s ∷ ss)
       (λ p. beginning-late le ss) (λ p. ltb-false (lo-of e s) k p)
 
-  -- The cursor of a level's points, and of its ranges, once they are passed.
-  abbrev pub point-front : ℕ → ℕ
-  point-front h = first-slot (beginning e k (chain-from e h))
-
-  abbrev pub range-front : ℕ → ℕ
-  range-front h = first-slot (reaching e k (chain-from e h))
-
 -- Levels that decide the same of a docket give the same for it.
 module _ (e points ranges points′ ranges′ : List ℕ) (j all : ℕ)
     (same : (i : ℕ) → i < all → level-decides (level-at e points′ ranges′ i) j ≡ level-decides (level-at e points ranges i) j) where
@@ -61,10 +54,21 @@ module _ (e points ranges points′ ranges′ : List ℕ) (j all : ℕ)
         looks-same n (suc i) (omega arith),
       )
 
+-- Other cursors: what they have to come begins at docket k or later, and from there on it is the same.
+pub record Passed (e : List ℕ) (k : ℕ) (points ranges points′ ranges′ : List ℕ) (n : ℕ) : Type 0 where
+  pub ready : Ready e points′ ranges′ n
+  pub begins : (i : ℕ) → i < n → k ≤ next-lo e points′ i
+  pub looks : (j : ℕ) → k ≤ j → lookup (coming e points′ ranges′ n) j ≡ lookup (coming e points ranges n) j
+
 -- All the cursors passed.
-module _ (e points ranges points′ ranges′ : List ℕ) (n k : ℕ) (ready : Ready e points ranges n) (le : k ≤ 65536)
-    (ps : Filled (λ i. point-front e k (getD points i 0)) n points points′)
-    (rs : Filled (λ i. range-front e k (getD ranges i 0)) n ranges ranges′) where
+module _ {e points ranges points′ ranges′ : List ℕ} {n k : ℕ} (ready : Ready e points ranges n) (le : k ≤ 65536)
+    (points-changed : points′ ≡ change (λ _ h. point-front e k h) n points) (ranges-changed : ranges′ ≡ change (λ _ h. range-front e k h) n ranges) where
+  ps : Filled (λ i. point-front e k (getD points i 0)) n points points′
+  ps = rw points-changed (changed (λ _ h. point-front e k h) n points (ready .point-room))
+
+  rs : Filled (λ i. range-front e k (getD ranges i 0)) n ranges ranges′
+  rs = rw ranges-changed (changed (λ _ h. range-front e k h) n ranges (ready .range-room))
+
   module _ (i : ℕ) (lt : i < n) where
     points-chain : chain-from e (getD points′ i 0) ≡ beginning e k (chain-from e (getD points i 0))
     points-chain = front-chain e (lo-of e) (getD points i 0) k (ready .point-order i lt) (getD points′ i 0) (ps .before i lt)

@@ -1,16 +1,16 @@
 -- Cursors: for each level the first point and the first range that are still to come, as two lists of slots.
 use mathlib.Core.Path.{_≡_}
-use mathlib.Core.Logic.{_≢_}
 use mathlib.Core.Bool.{cond}
 use mathlib.Core.List.{List, [], _∷_}
-use Prim.Native.Nat.{ℕ, zero, suc, _<_, _≤_, min}
+use Prim.Native.Nat.{ℕ, zero, suc, _-_, _<_, _≤_, min}
 use lib.Dec.{ltb}
-use lib.ListN.{length, getD}
+use lib.ListN.{length, getD, set}
+use Rattle.lists.specs.Lists.{iterate}
 use Rattle.model.specs.Records.{Level}
-use Rattle.model.specs.Lookup.{lookup}
-use Rattle.tables.specs.Words.{settings-of, level-row, lo-of}
+use Rattle.tables.specs.Words.{lo-of}
 use Rattle.tables.specs.Sound.{chain-from}
 use Rattle.covers.specs.Walks.{Ordered}
+use Rattle.covers.specs.Skips.{first-slot, beginning, reaching}
 use Rattle.lookup.specs.Answers.{chain-level}
 use Rattle.cursors.specs.declared.Pair.{Pair}
 use Rattle.cursors.specs.declared.Lead.{Lead}
@@ -45,29 +45,16 @@ pub record Ready (e points ranges : List ℕ) (n : ℕ) : Type 0 where
   pub point-order : (i : ℕ) → i < n → Ordered e (getD points i 0)
   pub range-order : (i : ℕ) → i < n → Ordered e (getD ranges i 0)
 
--- The cursors stand at the beginning of each level.
-pub record Opened (l points ranges : List ℕ) : Type 0 where
-  pub points-begin : (i : ℕ) → i ≤ settings-of l .deepest → getD points i 0 ≡ level-row l i .w0
-  pub ranges-begin : (i : ℕ) → i ≤ settings-of l .deepest → getD ranges i 0 ≡ level-row l i .w1
+-- Each of the first n of some cursors, changed by f, which is told its level.
+abbrev pub change : (ℕ → ℕ → ℕ) → ℕ → List ℕ → List ℕ
+change f n cursors = iterate (λ i cs. set cs i (f i (getD cs i 0))) 0 n cursors
 
--- Other cursors: what they have to come begins at docket k or later, and from there on it is the same.
-pub record Passed (e : List ℕ) (k : ℕ) (points ranges points′ ranges′ : List ℕ) (n : ℕ) : Type 0 where
-  pub ready : Ready e points′ ranges′ n
-  pub begins : (i : ℕ) → i < n → k ≤ next-lo e points′ i
-  pub looks : (j : ℕ) → k ≤ j → lookup (coming e points′ ranges′ n) j ≡ lookup (coming e points ranges n) j
+-- From slot h on, the first point that begins, and the first range that ends, at docket k or later.
+abbrev pub point-front : List ℕ → ℕ → ℕ → ℕ
+point-front e k h = first-slot (beginning e k (chain-from e h))
 
--- Of n levels, two: one with the least key to come, which is alone before the bound, and a second; before the limit no other level has a point, and no level
--- above either of them a range.
-pub record Leads (e points ranges : List ℕ) (n : ℕ) (a : Pair) : Type 0 where
-  pub inside : a .level < n
-  pub second-inside : a .second < n
-  pub apart : a .second ≢ a .level
-  pub least : (i : ℕ) → i < n → next-lo e points (a .level) ≤ next-lo e points i
-  pub within : a .bound ≤ a .limit
-  pub before-second : a .bound ≤ next-lo e points (a .second)
-  pub others : (i : ℕ) → i < n → i ≢ a .level → i ≢ a .second → a .limit ≤ next-lo e points i
-  pub above-level : (i : ℕ) → i < a .level → a .limit ≤ next-lo e ranges i
-  pub above-second : (i : ℕ) → i < a .second → a .limit ≤ next-lo e ranges i
+abbrev pub range-front : List ℕ → ℕ → ℕ → ℕ
+range-front e k h = first-slot (reaching e k (chain-from e h))
 
 -- The two among the levels up to level i, where those before it gave m and its first point and first range begin at p and r.
 abbrev pub led : Lead → ℕ → ℕ → ℕ → Lead
@@ -77,3 +64,14 @@ led m i p r =
     (cond (ltb p (m .next))
     (record { level = m .level; second = i; least = m .least; next = p; bound = min (m .next) (m .above); above = min (m .above) r })
     (record { level = m .level; second = m .second; least = m .least; next = m .next; bound = min (m .bound) p; above = min (m .above) r }))
+
+-- The two, and how far the first is alone, and both.
+abbrev pub pair-of : Lead → Pair
+pair-of m = record { level = m .level; second = m .second; bound = min (m .next) (m .bound); limit = m .bound }
+
+-- The level with the least key to come of n levels, and a second one: at first level 0 leads and level 1 is second, then each from level 1 on is held against the two.
+abbrev pub leading : List ℕ → List ℕ → List ℕ → ℕ → Pair
+leading e points ranges n =
+    let above = next-lo e ranges 0 in
+    let first : Lead = record { level = 0; second = 1; least = next-lo e points 0; next = 65536; bound = above; above = above } in
+    pair-of (iterate (λ i m. led m i (next-lo e points i) (next-lo e ranges i)) 1 (n - 1) first)

@@ -7,13 +7,11 @@ use rows::lo_of;
 ghost use mathlib.Core.Path.{_≡_};
 ghost use Prim.Native.Nat.{_+_, _*_, _<_, _≤_, min};
 ghost use lib.ListN.{length, getD, set};
-ghost use Rattle.model.specs.Lookup.{absent, lookup};
-ghost use Rattle.tables.specs.Words.{settings-of};
+ghost use Rattle.tables.specs.Words.{settings-of, level-row};
 ghost use Rattle.tables.specs.Sound.{chain-from};
 ghost use Rattle.covers.specs.Walks.{Ordered};
-ghost use Rattle.covers.specs.Skips.{first-slot, beginning, reaching};
-ghost use Rattle.lookup.specs.Answers.{settle};
-ghost use Rattle.cursors.specs.Cursors.{coming, first-lo, led, Ready, Opened, Passed, Leads};
+ghost use Rattle.lookup.specs.Answers.{levels-decide};
+ghost use Rattle.cursors.specs.Cursors.{coming, first-lo, change, point-front, range-front, led, leading, Ready};
 
 // Past the last docket: no record is left.
 const NO_KEY: u32 = 65536;
@@ -43,7 +41,8 @@ pub fn open(l: &[u32], points: &mut [usize], ranges: &mut [usize])
     requires { ⌜ length (now l) ≡ 4 * (settings-of (now l) .deepest + 2) ⌝ }
     requires { ⌜ settings-of (now l) .deepest < length (now points) ⌝ }
     requires { ⌜ settings-of (now l) .deepest < length (now ranges) ⌝ }
-    ensures { λ _. ⌜ Opened (now (l .entry)) (now (points .exit)) (now (ranges .exit)) ⌝ }
+    ensures { λ _. ⌜ now (points .exit) ≡ change (λ i _. level-row (now (l .entry)) i .w0) (settings-of (now (l .entry)) .deepest + 1) (now (points .entry)) ⌝ }
+    ensures { λ _. ⌜ now (ranges .exit) ≡ change (λ i _. level-row (now (l .entry)) i .w1) (settings-of (now (l .entry)) .deepest + 1) (now (ranges .entry)) ⌝ }
 {
     let levels = l[0] as usize + 1;
     let mut i = 0;
@@ -57,7 +56,7 @@ pub fn open(l: &[u32], points: &mut [usize], ranges: &mut [usize])
 // Looks a docket up in what is to come.
 pub fn look(e: &[u32], points: &[usize], ranges: &[usize], levels: usize, docket: u32) -> Decided
     requires { ⌜ Ready (now e) (now points) (now ranges) levels ⌝ }
-    ensures { λ r. ⌜ settle r absent ≡ lookup (coming (now (e .entry)) (now (points .entry)) (now (ranges .entry)) levels) docket ⌝ }
+    ensures { λ r. ⌜ r ≡ levels-decide (coming (now (e .entry)) (now (points .entry)) (now (ranges .entry)) levels) docket ⌝ }
 {
     let mut i = 0;
     while i < levels {
@@ -73,8 +72,8 @@ pub fn look(e: &[u32], points: &[usize], ranges: &[usize], levels: usize, docket
 // Passes the points that begin, and the ranges that end, before a docket, in each level.
 pub fn pass(e: &[u32], points: &mut [usize], ranges: &mut [usize], levels: usize, docket: u32)
     requires { ⌜ Ready (now e) (now points) (now ranges) levels ⌝ }
-    requires { ⌜ docket ≤ 65536 ⌝ }
-    ensures { λ _. ⌜ Passed (now (e .entry)) docket (now (points .entry)) (now (ranges .entry)) (now (points .exit)) (now (ranges .exit)) levels ⌝ }
+    ensures { λ _. ⌜ now (points .exit) ≡ change (λ _ h. point-front (now (e .entry)) docket h) levels (now (points .entry)) ⌝ }
+    ensures { λ _. ⌜ now (ranges .exit) ≡ change (λ _ h. range-front (now (e .entry)) docket h) levels (now (ranges .entry)) ⌝ }
 {
     let mut i = 0;
     while i < levels {
@@ -88,8 +87,8 @@ fn pass_level(e: &[u32], points: &mut [usize], ranges: &mut [usize], i: usize, d
     requires { ⌜ (i < length (now points)) × (i < length (now ranges)) ⌝ }
     requires { ⌜ Ordered (now e) (getD (now points) i 0) ⌝ }
     requires { ⌜ Ordered (now e) (getD (now ranges) i 0) ⌝ }
-    ensures { λ _. ⌜ now (points .exit) ≡ set (now (points .entry)) i (first-slot (beginning (now (e .entry)) docket (chain-from (now (e .entry)) (getD (now (points .entry)) i 0)))) ⌝ }
-    ensures { λ _. ⌜ now (ranges .exit) ≡ set (now (ranges .entry)) i (first-slot (reaching (now (e .entry)) docket (chain-from (now (e .entry)) (getD (now (ranges .entry)) i 0)))) ⌝ }
+    ensures { λ _. ⌜ now (points .exit) ≡ set (now (points .entry)) i (point-front (now (e .entry)) docket (getD (now (points .entry)) i 0)) ⌝ }
+    ensures { λ _. ⌜ now (ranges .exit) ≡ set (now (ranges .entry)) i (range-front (now (e .entry)) docket (getD (now (ranges .entry)) i 0)) ⌝ }
 {
     points[i] = seek(e, points[i], docket);
     ranges[i] = skip(e, ranges[i], docket);
@@ -110,7 +109,7 @@ pub fn key_at(e: &[u32], slot: usize) -> u32
 pub fn leaders(e: &[u32], points: &[usize], ranges: &[usize], levels: usize) -> Pair
     requires { ⌜ Ready (now e) (now points) (now ranges) levels ⌝ }
     requires { ⌜ 1 < levels ⌝ }
-    ensures { λ r. ⌜ Leads (now (e .entry)) (now (points .entry)) (now (ranges .entry)) levels r ⌝ }
+    ensures { λ r. ⌜ r ≡ leading (now (e .entry)) (now (points .entry)) (now (ranges .entry)) levels ⌝ }
 {
     let above = key_at(e, ranges[0]);
     let mut m = Lead {

@@ -1,5 +1,5 @@
 -- Laws of the answers: what chains, levels and all levels decide.
-use mathlib.Core.Path.{_≡_, refl, sym, _∙_}
+use mathlib.Core.Path.{_≡_, refl, sym, ap, _∙_}
 use mathlib.Core.Bool.{Bool, true, false, cond}
 use mathlib.Core.List.{List, [], _∷_, map}
 use Prim.Native.Nat.{ℕ, _<_}
@@ -14,7 +14,7 @@ use Rattle.tables.specs.Words.{lo-of}
 use Rattle.tables.specs.Placed.{read-point}
 use Rattle.lookup.specs.declared.Decided.{Decided}
 use Rattle.lookup.specs.declared.Decided.the-variants.{Value, Absent, Deeper}
-use Rattle.lookup.specs.Answers.{tells, decides, or-else, level-decides, settle}
+use Rattle.lookup.specs.Answers.{tells, decides, or-else, level-decides, levels-decide, settle}
 
 -- Records past the docket decide nothing.
 pub decides-past : (e : List ℕ) (k : ℕ) (ss : List ℕ) → All (λ s. k < lo-of e s) ss → decides (map (read-point e) ss) k ≡ Deeper
@@ -47,6 +47,18 @@ unfolding model.lookup level-decides
 lookup-decides l ls k =
     find-decides (l .points) k (cond (covered (l .ranges) k) model.absent (model.lookup ls k))
     ∙ sym (settle-or-else (decides (l .points) k) (covered (l .ranges) k) (model.lookup ls k))
+
+settle-next : (c d : Decided) (deeper : model.Found ℕ) → settle (or-else c d) deeper ≡ settle c (settle d deeper)
+settle-next (Value a t) d deeper = refl
+settle-next Absent d deeper = refl
+settle-next Deeper d deeper = refl
+
+-- What levels decide is what the model finds in them.
+pub levels-settle : (ls : List (Level ℕ ℕ)) (k : ℕ) → settle (levels-decide ls k) model.absent ≡ model.lookup ls k
+unfolding levels-decide model.lookup
+levels-settle [] k = refl
+levels-settle (l ∷ ls) k =
+    settle-next (level-decides l k) (levels-decide ls k) model.absent ∙ ap (settle (level-decides l k)) (levels-settle ls k) ∙ sym (lookup-decides l ls k)
 
 module _ (l : Level ℕ ℕ) (k : ℕ) (d : Decided) (says : d ≡ decides (l .points) k) where
   pub level-by-point : or-else d (cond (covered (l .ranges) k) Absent Deeper) ≡ d → d ≡ level-decides l k

@@ -42,6 +42,11 @@ chain-level e points ranges = record { points = map (read-point e) (chain-from e
 unfoldable pub level-decides : Level ℕ ℕ → ℕ → Decided
 level-decides l k = or-else (decides (l .points) k) (cond (covered (l .ranges) k) Absent Deeper)
 
+-- What levels decide: the first that does.
+unfoldable pub levels-decide : List (Level ℕ ℕ) → ℕ → Decided
+levels-decide [] k = Deeper
+levels-decide (l ∷ ls) k = or-else (level-decides l k) (levels-decide ls k)
+
 -- What a level has decided, or else what the deeper levels give.
 abbrev pub settle : Decided → model.Found ℕ → model.Found ℕ
 settle (Value a t) deeper = model.found a t

@@ -7,12 +7,14 @@ use native.Mathlib.Numerals.{add-one}
 use native.Mathlib.Omega.{arith}
 use lib.ListN.{length, getD}
 use Rattle.model.specs.Lookup.{lookup, live}
-use Rattle.tables.specs.Words.{settings-of}
+use Rattle.tables.specs.Words.{settings-of, level-row}
 use Rattle.tables.specs.Placed.{read-state}
 use Rattle.covers.proofs.Chains.{Words}
 use Rattle.lookup.specs.Readable.{Readable}
 use Rattle.sweep.specs.declared.Sweep.{Sweep}
-use Rattle.cursors.specs.Cursors.{coming, Ready, Opened, Passed}
+use Rattle.cursors.specs.Cursors.{coming, change, point-front, range-front, Ready}
+use Rattle.cursors.proofs.Opening.{Opened, opened}
+use Rattle.cursors.proofs.Passing.{Passed, passed}
 use Rattle.sweep.specs.Sweeps.{Sweeping, rest}
 use Rattle.sweep.proofs.Heads.{unchanged}
 use Rattle.sweep.proofs.Live.{live-onward}
@@ -39,30 +41,42 @@ begun points ranges levels hi = record {
   stamp = 0;
 }
 
-module _ {e l points ranges : List ℕ} (readable : Readable e l) (opened : Opened l points ranges) where
-  abbrev levels : ℕ
-  levels = settings-of l .deepest + 1
+-- Cursors set to the beginning of each level of tables that can be read, in room for seven levels.
+module _ {e l points ranges : List ℕ} (readable : Readable e l) (old-points old-ranges : List ℕ) (point-room : length old-points ≡ 7) (range-room : length old-ranges ≡ 7)
+    (points-open : points ≡ change (λ i _. level-row l i .w0) (settings-of l .deepest + 1) old-points)
+    (ranges-open : ranges ≡ change (λ i _. level-row l i .w1) (settings-of l .deepest + 1) old-ranges) where
+  levels-few : settings-of l .deepest + 1 ≤ 7
+  levels-few = omega (arith, readable .shallow)
 
-  pub opened-ready : levels ≤ length points → levels ≤ length ranges → Ready e points ranges levels
-  opened-ready p q = record {
-    point-room = p;
-    range-room = q;
-    point-order = λ i h. rw (opened .points-begin i (omega arith)) (readable .points i (omega arith));
-    range-order = λ i h. rw (opened .ranges-begin i (omega arith)) (readable .ranges i (omega arith));
+  begin : Opened l points ranges old-points old-ranges
+  begin = opened l old-points old-ranges (omega (arith, levels-few)) (omega (arith, levels-few)) points-open ranges-open
+
+  pub begun-ready : Ready e points ranges (settings-of l .deepest + 1)
+  begun-ready = record {
+    point-room = omega (arith, levels-few, begin .points-length);
+    range-room = omega (arith, levels-few, begin .ranges-length);
+    point-order = λ i h. rw (begin .points-begin i (omega arith)) (readable .points i (omega arith));
+    range-order = λ i h. rw (begin .ranges-begin i (omega arith)) (readable .ranges i (omega arith));
   }
 
   -- They have to come what the tables read as.
-  opened-looks : (j : ℕ) → lookup (coming e points ranges levels) j ≡ lookup (read-state e l .levels) j
+  begun-looks : (j : ℕ) → lookup (coming e points ranges (settings-of l .deepest + 1)) j ≡ lookup (read-state e l .levels) j
   unfolding read-state
-  opened-looks j =
-      says-read e points ranges j l levels 0
-      (λ i a b. (opened .points-begin i (omega arith), opened .ranges-begin i (omega arith)))
+  begun-looks j =
+      says-read e points ranges j l (settings-of l .deepest + 1) 0
+      (λ i a b. (begin .points-begin i (omega arith), begin .ranges-begin i (omega arith)))
       ∙ rw (add-one (settings-of l .deepest))
 
-  module _ {points′ ranges′ : List ℕ} {lo : ℕ} (passed : Passed e lo points ranges points′ ranges′ levels) where
-    pub begun-sweeping : (hi : ℕ) → hi ≤ 65535 → Sweeping e (begun points′ ranges′ levels hi)
-    begun-sweeping hi le = record {
-      ready = rw (unchanged points′ 0 1) (passed .ready);
+  -- They pass what lies before lo.
+  module _ {points′ ranges′ : List ℕ} {lo : ℕ} (le : lo ≤ 65536)
+      (points-passed : points′ ≡ change (λ _ h. point-front e lo h) (settings-of l .deepest + 1) points)
+      (ranges-passed : ranges′ ≡ change (λ _ h. range-front e lo h) (settings-of l .deepest + 1) ranges) where
+    pass : Passed e lo points ranges points′ ranges′ (settings-of l .deepest + 1)
+    pass = passed begun-ready le points-passed ranges-passed
+
+    pub begun-sweeping : (hi : ℕ) → hi ≤ 65535 → Sweeping e (begun points′ ranges′ (settings-of l .deepest + 1) hi)
+    begun-sweeping hi last = record {
+      ready = rw (unchanged points′ 0 1) (pass .ready);
       inside = omega arith;
       second-inside = omega (arith, readable .deep);
       apart = λ q. omega arith;
@@ -71,13 +85,12 @@ module _ {e l points ranges : List ℕ} (readable : Readable e l) (opened : Open
       others = λ i h p q. omega arith;
       above-level = λ i h. omega arith;
       above-second = λ i h. omega arith;
-      last = le;
+      last = last;
     }
 
-    pub begun-rest : Words e → (hi : ℕ) → lo ≤ hi
-        → rest e (begun points′ ranges′ levels hi) ≡ live (lookup (read-state e l .levels)) lo hi
-    begun-rest words hi le =
+    pub begun-rest : Words e → (hi : ℕ) → lo ≤ hi → rest e (begun points′ ranges′ (settings-of l .deepest + 1) hi) ≡ live (lookup (read-state e l .levels)) lo hi
+    begun-rest words hi few =
         rw (unchanged points′ 0 1)
-        (live-onward (lookup (coming e points′ ranges′ levels)) (lookup (read-state e l .levels)) lo hi
-        (none-before e points′ ranges′ levels lo words (passed .ready) (passed .begins))
-        (λ j h. passed .looks j h ∙ opened-looks j) (omega arith))
+        (live-onward (lookup (coming e points′ ranges′ (settings-of l .deepest + 1))) (lookup (read-state e l .levels)) lo hi
+        (none-before e points′ ranges′ (settings-of l .deepest + 1) lo words (pass .ready) (pass .begins))
+        (λ j h. pass .looks j h ∙ begun-looks j) (omega arith))

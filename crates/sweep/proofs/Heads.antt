@@ -12,7 +12,8 @@ use Rattle.tables.specs.Sound.{chain-from}
 use Rattle.covers.specs.Walks.{Ordered}
 use Rattle.sweep.specs.declared.Sweep.{Sweep}
 use Rattle.cursors.specs.declared.Pair.{Pair}
-use Rattle.cursors.specs.Cursors.{first-lo, next-lo, Leads}
+use Rattle.cursors.specs.Cursors.{first-lo, next-lo, leading}
+use Rattle.cursors.proofs.Leading.{Leads, leads}
 use Rattle.sweep.specs.Sweeps.{heads, swapped, Sweeping, Foremost}
 
 -- The same to come, and other levels may go on.
@@ -150,7 +151,10 @@ module _ (e : List ℕ) (m : Sweep) (s : Sweeping e m) where
     stamp = m .stamp;
   }
 
-  module _ (a : Pair) (leads : Leads e (heads m) (m .ranges) (m .levels) a) where
+  module _ (a : Pair) (is : a ≡ leading e (heads m) (m .ranges) (m .levels)) where
+    pub led : Leads e (heads m) (m .ranges) (m .levels) a
+    led = rw is (leads e (heads m) (m .ranges) (m .levels) (omega (arith, s .inside, s .second-inside, s .apart)))
+
     same : heads (chosen a) ≡ heads m
     same = unchanged (heads m) (a .level) (a .second)
 
@@ -158,14 +162,14 @@ module _ (e : List ℕ) (m : Sweep) (s : Sweeping e m) where
     chooses = record {
       sweeping = record {
         ready = rw same (s .ready);
-        inside = leads .inside;
-        second-inside = leads .second-inside;
-        apart = leads .apart;
-        within = leads .within;
-        before-second = rw same (leads .before-second);
-        others = rw same (leads .others);
-        above-level = leads .above-level;
-        above-second = leads .above-second;
+        inside = led .inside;
+        second-inside = led .second-inside;
+        apart = led .apart;
+        within = led .within;
+        before-second = rw same (led .before-second);
+        others = rw same (led .others);
+        above-level = led .above-level;
+        above-second = led .above-second;
         last = s .last;
       };
       same-heads = same;
@@ -175,4 +179,4 @@ module _ (e : List ℕ) (m : Sweep) (s : Sweeping e m) where
     }
 
     pub chosen-foremost : Foremost e (chosen a)
-    chosen-foremost = record { settled = sym same; least = rw same (leads .least) }
+    chosen-foremost = record { settled = sym same; least = rw same (led .least) }

@@ -1,5 +1,5 @@
 -- A step that asks all levels: the cursors that have passed the least docket to come.
-use mathlib.Core.Path.{_≡_, refl, _∙_}
+use mathlib.Core.Path.{_≡_, refl, sym, _∙_}
 use mathlib.Core.Bool.{Bool, true, false}
 use mathlib.Core.List.{List}
 use Prim.Native.Nat.{ℕ, _+_, _<_, _≤_}
@@ -8,9 +8,11 @@ use lib.ListN.{getD}
 use Rattle.model.specs.Lookup.{absent, found, lookup}
 use Rattle.covers.proofs.Chains.{Words}
 use Rattle.lookup.specs.declared.Decided.{Decided}
-use Rattle.lookup.specs.Answers.{settle}
+use Rattle.lookup.specs.Answers.{levels-decide, settle}
+use Rattle.lookup.proofs.Answers.{levels-settle}
 use Rattle.sweep.specs.declared.Sweep.{Sweep}
-use Rattle.cursors.specs.Cursors.{coming, next-lo, Passed}
+use Rattle.cursors.specs.Cursors.{coming, next-lo, change, point-front, range-front}
+use Rattle.cursors.proofs.Passing.{Passed, passed}
 use Rattle.sweep.specs.Sweeps.{heads, to-come, Sweeping, Foremost, Stepped}
 use Rattle.sweep.proofs.Heads.{unchanged}
 use Rattle.sweep.proofs.Steps.{Passing, stepped-on, stepped-found}
@@ -39,6 +41,10 @@ module _ {e : List ℕ} {m : Sweep} {k : ℕ} (s : Sweeping e m) (is : k ≡ nex
   pub together-least : (i : ℕ) → i < m .levels → k ≤ next-lo e (heads m) i
   together-least i h = omega (arith, f .least i h)
 
+  pub together-passed : {points ranges : List ℕ} → k ≤ m .hi → points ≡ change (λ _ h. point-front e (k + 1) h) (m .levels) (m .points)
+      → ranges ≡ change (λ _ h. range-front e (k + 1) h) (m .levels) (m .ranges) → Passed e (k + 1) (m .points) (m .ranges) points ranges (m .levels)
+  together-passed le = passed (rw (f .settled) (s .ready)) (omega (arith, s .last))
+
   module _ {points ranges : List ℕ} (p : Passed e (k + 1) (m .points) (m .ranges) points ranges (m .levels)) (words : Words e)
       (le : k ≤ m .hi) where
     passing : (going alive : Bool) (key value stamp : ℕ) → Passing e m (regrouped m points ranges going alive key value stamp) k
@@ -65,9 +71,9 @@ module _ {e : List ℕ} {m : Sweep} {k : ℕ} (s : Sweeping e m) (is : k ≡ nex
         }
 
     -- Asked of all levels, w is what they say: that the docket is not live, or that it is.
-    module _ (d w : Decided) (asked : settle d absent ≡ lookup (coming e (m .points) (m .ranges) (m .levels)) k) (says : d ≡ w) where
+    module _ (d w : Decided) (asked : d ≡ levels-decide (coming e (m .points) (m .ranges) (m .levels)) k) (says : d ≡ w) where
       answer : lookup (to-come e m) k ≡ settle w absent
-      answer = rw (← f .settled, ← asked, says)
+      answer = rw (← f .settled, ← says, asked) (sym (levels-settle (coming e (m .points) (m .ranges) (m .levels)) k))
 
       pub together-on : settle w absent ≡ absent → m .going ≡ true
           → Stepped e m (regrouped m points ranges (m .going) (m .live) (m .key) (m .value) (m .stamp))

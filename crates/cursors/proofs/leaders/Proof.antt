@@ -1,13 +1,16 @@
--- `cursors::leaders` meets its contract. The loop's invariant: what is carried is known of the levels before i.
-use mathlib.Core.Path.{refl}
+-- `cursors::leaders` meets its contract. The loop's invariant: the levels from i on, held against what is carried, give what all levels give.
+use mathlib.Core.Path.{_≡_, sym, ap, _∙_}
 use Prim.Native.Nat.{_-_, _≤_}
 use native.Mathlib.Omega.{arith}
-use Rattle.cursors.proofs.Leading.{Led, led-first, led-on, led-leads}
+use Rattle.lists.specs.Lists.{iterate}
+use Rattle.cursors.specs.Cursors.{pair-of, leading}
+use Rattle.cursors.proofs.Leading.{lead-step, lead-turn, lead-end}
 use Rattle.cursors.proofs.leaders.Statement.{statement}
 use Rattle.cursors.proofs.leaders.Tie as tie
 
 abbrev Inv-loop : tie.InvT-loop
-Inv-loop e points ranges levels above m₀ i₀ m i = (i ≤ levels) × Led e points ranges levels i m
+Inv-loop e points ranges levels above m₀ i₀ m i =
+    (1 ≤ i) × (i ≤ levels) × (pair-of (iterate (lead-step e points ranges levels) i (levels - i) m) ≡ leading e points ranges levels)
 
 abbrev μ-loop : tie.MeasureT-loop
 μ-loop e points ranges levels above m₀ i₀ m i = levels - i
@@ -26,8 +29,7 @@ key-at-requires-2 c κs = let pre = c .before .before .before .before .before .b
 
 loop-holds : tie.Need-loop-holds Inv-loop μ-loop
 loop-holds c =
-    let pre = c .before .before .before .before .before .before .before .pre in
-    (omega (arith, pre .1), led-first _ _ _ _ _ _ (pre .1) refl refl refl (c .key-at2 .ensures) (c .before .before .key-at .ensures) (c .before .before .key-at .ensures))
+    (omega arith, omega (arith, c .before .before .before .before .before .before .before .pre .1), rw (c .key-at2 .ensures, c .before .before .key-at .ensures))
 
 mul-key-at : tie.Need-mul-key-at Inv-loop μ-loop
 mul-key-at c = omega arith
@@ -58,17 +60,21 @@ loop-less c = omega arith
 
 loop-again : tie.Need-loop-again Inv-loop μ-loop
 loop-again c =
-    let t = c .before .before .before .before .before in (
+    let t = c .before .before .before .before .before in
+    let a = t .before .before .before .before .before .before .before .before .before .args in (
       omega arith,
-      led-on _ _ _ _ _ _ (t .before .loop .inv .1) _ _ _ _ (t .loop-test .taken) (omega arith) (c .before .before .before .key-at3 .ensures) (c .before .key-at4 .ensures)
-          (c .lead-next .ensures),
+      omega arith,
+      ap pair-of (lead-turn (a .e .now) (a .points .now) (a .ranges .now) (a .levels) _ _ _ _ _ _ (t .loop-test .taken) (omega arith) (c .before .before .before .key-at3 .ensures) (c .before .key-at4 .ensures) (c .lead-next .ensures))
+          ∙ t .before .loop .inv .2,
     )
 
 lesser-requires : tie.Need-lesser-requires Inv-loop μ-loop
 lesser-requires c κs = tt
 
 returns : tie.Need-returns Inv-loop μ-loop
-returns c = led-leads _ _ _ _ _ _ (c .before .before .loop .inv .1) _ (omega arith) refl refl (c .lesser .ensures) refl
+returns c =
+    let a = c .before .before .before .before .before .before .before .before .before .before .args in
+    rw (c .lesser .ensures) (sym (ap pair-of (lead-end (a .e .now) (a .points .now) (a .ranges .now) (a .levels) _ _ (c .before .loop-test .left))) ∙ c .before .before .loop .inv .2)
 
 pub leaders-spec : {M : Type 1} → statement M
 leaders-spec =

@@ -1,9 +1,9 @@
--- `cursors::look` meets its contract. The loop's invariant: the levels from i on give what all levels give.
+-- `cursors::look` meets its contract. The loop's invariant: the levels from i on decide what all levels decide.
 use mathlib.Core.Path.{_≡_, refl, sym, _∙_}
 use Prim.Native.Nat.{_-_, _≤_}
 use native.Mathlib.Nat.{sub-zero}
 use native.Mathlib.Omega.{arith}
-use Rattle.model.specs.Lookup.{lookup}
+use Rattle.lookup.specs.Answers.{levels-decide}
 use Rattle.cursors.specs.Cursors.{coming}
 use Rattle.cursors.proofs.Looking.{look-from, look-none, look-next}
 use Rattle.cursors.proofs.look.Statement.{statement}
@@ -11,7 +11,7 @@ use Rattle.cursors.proofs.look.Tie as tie
 
 abbrev Inv-loop : tie.InvT-loop
 Inv-loop e points ranges levels docket i₀ i =
-    (i ≤ levels) × (look-from e points ranges docket levels i ≡ lookup (coming e points ranges levels) docket)
+    (i ≤ levels) × (look-from e points ranges docket levels i ≡ levels-decide (coming e points ranges levels) docket)
 
 abbrev μ-loop : tie.MeasureT-loop
 μ-loop e points ranges levels docket i₀ i = levels - i

@@ -3,7 +3,7 @@ use mathlib.Core.Path.{_≡_, refl}
 use Prim.Native.Nat.{_+_, _*_, _-_, _≤_}
 use native.Mathlib.Omega.{arith}
 use Rattle.tables.specs.Words.{settings-of, level-row}
-use Rattle.cursors.proofs.Filling.{Filled, fill-none, fill-next}
+use Rattle.cursors.proofs.Filling.{Filled, fill-none, fill-next, filled-change}
 use Rattle.cursors.proofs.open.Statement.{statement}
 use Rattle.cursors.proofs.open.Tie as tie
 
@@ -95,10 +95,13 @@ same-length-2 : tie.Need-same-length-2 Inv-loop μ-loop
 same-length-2 c = c .before .loop .inv .3 .same-length
 
 returns : tie.Need-returns Inv-loop μ-loop
-returns c = record {
-  points-begin = λ i le. c .before .loop .inv .2 .before i (omega arith);
-  ranges-begin = λ i le. c .before .loop .inv .3 .before i (omega arith);
-}
+returns c =
+    let a = c .before .before .before .args in
+    let m = c .before .loop in
+    let all : m .i ≡ settings-of (a .l .now) .deepest + 1 = omega arith in (
+      filled-change (λ i _. level-row (a .l .now) i .w0) _ (a .points .now) (m .points) (omega arith) (rw all at (m .inv .2)),
+      filled-change (λ i _. level-row (a .l .now) i .w1) _ (a .ranges .now) (m .ranges) (omega arith) (rw all at (m .inv .3)),
+    )
 
 pub open-spec : {M : Type 1} → statement M
 open-spec =

@@ -3,8 +3,8 @@ use mathlib.Core.Path.{_≡_, refl}
 use Prim.Native.Nat.{_-_, _≤_}
 use native.Mathlib.Omega.{arith}
 use lib.ListN.{getD}
-use Rattle.cursors.proofs.Filling.{Filled, fill-none, fill-on}
-use Rattle.cursors.proofs.Passing.{point-front, range-front, passed}
+use Rattle.cursors.specs.Cursors.{point-front, range-front}
+use Rattle.cursors.proofs.Filling.{Filled, fill-none, fill-on, filled-change}
 use Rattle.cursors.proofs.pass.Statement.{statement}
 use Rattle.cursors.proofs.pass.Tie as tie
 
@@ -21,7 +21,7 @@ loop-holds c = (omega arith, fill-none _ _ _ refl, fill-none _ _ _ refl)
 
 pass-level-requires : tie.Need-pass-level-requires Inv-loop μ-loop
 pass-level-requires c κs =
-    let ready = c .before .before .before .before .before .before .before .pre .0 in
+    let ready = c .before .before .before .before .before .before .before .pre in
     let below = c .before .before .loop-test .taken in
     let m = c .before .before .before .loop in (
       (omega (arith, ready .point-room, m .inv .1 .same-length), omega (arith, ready .range-room, m .inv .2 .same-length)),
@@ -40,12 +40,12 @@ loop-less c = omega arith
 loop-again : tie.Need-loop-again Inv-loop μ-loop
 loop-again c =
     let a = c .before .before .before .before .before .before .before .before .before .before .before .before .args in
-    let ready = c .before .before .before .before .before .before .before .before .before .before .before .before .pre .0 in
+    let ready = c .before .before .before .before .before .before .before .before .before .before .before .before .pre in
     let m = c .before .before .before .before .before .before .before .before .loop in (
       omega arith,
-      fill-on (point-front (a .e .now) (a .docket)) (m .i) _ _ (m .points) _ (omega arith) (omega (arith, ready .point-room))
+      fill-on (λ _ h. point-front (a .e .now) (a .docket) h) (m .i) _ _ (m .points) _ (omega arith) (omega (arith, ready .point-room))
           (c .before .before .before .before .pass-level .ensures .0) (m .inv .1),
-      fill-on (range-front (a .e .now) (a .docket)) (m .i) _ _ (m .ranges) _ (omega arith) (omega (arith, ready .range-room))
+      fill-on (λ _ h. range-front (a .e .now) (a .docket) h) (m .i) _ _ (m .ranges) _ (omega arith) (omega (arith, ready .range-room))
           (c .before .before .before .before .pass-level .ensures .1) (m .inv .2),
     )
 
@@ -58,11 +58,12 @@ same-length-2 c = c .before .loop .inv .2 .same-length
 returns : tie.Need-returns Inv-loop μ-loop
 returns c =
     let a = c .before .before .before .before .before .args in
-    let pre = c .before .before .before .before .before .pre in
+    let ready = c .before .before .before .before .before .pre in
     let m = c .before .loop in
-    let all : m .i ≡ a .levels = omega arith in
-    passed (a .e .now) (a .points .now) (a .ranges .now) (m .points) (m .ranges) (a .levels) (a .docket) (pre .0) (pre .1)
-    (rw all at (m .inv .1)) (rw all at (m .inv .2))
+    let all : m .i ≡ a .levels = omega arith in (
+      filled-change (λ _ h. point-front (a .e .now) (a .docket) h) (a .levels) (a .points .now) (m .points) (ready .point-room) (rw all at (m .inv .1)),
+      filled-change (λ _ h. range-front (a .e .now) (a .docket) h) (a .levels) (a .ranges .now) (m .ranges) (ready .range-room) (rw all at (m .inv .2)),
+    )
 
 pub pass-spec : {M : Type 1} → statement M
 pass-spec =

@@ -1,9 +1,8 @@
 -- `sweep::begin` meets its contract: the cursors, once they have passed what lies before lo, have to come what the tables read as from lo on.
-use mathlib.Core.Path.{_≡_, _∙_}
+use mathlib.Core.Path.{refl, _∙_}
 use native.Mathlib.Omega.{arith}
 use borrow.Author.Needs.{needs}
-use lib.ListN.{length}
-use Rattle.sweep.proofs.Begins.{opened-ready, begun-sweeping, begun-rest}
+use Rattle.sweep.proofs.Begins.{begun-ready, begun-sweeping, begun-rest}
 use Rattle.sweep.proofs.begin.Statement.{statement}
 use Rattle.sweep.proofs.begin.Tie as tie
 
@@ -35,11 +34,7 @@ pass-requires : tie.Need-pass-requires
 pass-requires c κs =
     let o = c .before .before .before .before in
     let p = o .before .before .before .before .before .before .pre in
-    let point-room : length (o .«open» .last .1 .0) ≡ 7 = search needs in
-    let range-room : length (o .«open» .last .1 .1 .0) ≡ 7 = search needs in (
-      opened-ready (p .0) (o .«open» .ensures) (omega (arith, p .0 .shallow)) (omega (arith, p .0 .shallow)),
-      omega (arith, p .1 .0, p .1 .1),
-    )
+    begun-ready (p .0) _ _ refl refl (o .«open» .ensures .0) (o .«open» .ensures .1)
 
 array-read-slot : tie.Need-array-read-slot
 array-read-slot c = search needs
@@ -52,7 +47,7 @@ advance-requires c κs =
     let a = c .before .before in
     let o = a .before .before .before .before .before in
     let p = o .before .before .before .before .before .before .pre in
-    begun-sweeping (p .0) (o .«open» .ensures) (a .pass .ensures) _ (p .1 .1)
+    begun-sweeping (p .0) _ _ refl refl (o .«open» .ensures .0) (o .«open» .ensures .1) (omega (arith, p .1 .0, p .1 .1)) (a .pass .ensures .0) (a .pass .ensures .1) _ (p .1 .1)
 
 returns : tie.Need-returns
 returns c =
@@ -62,7 +57,8 @@ returns c =
     let p = k .before .pre in (
       c .advance .ensures .0,
       c .advance .ensures .1
-          ∙ begun-rest (p .0) (o .«open» .ensures) (a .pass .ensures) (λ i. k .shared-slice-known .given i .fits) _ (p .1 .0),
+          ∙ begun-rest (p .0) _ _ refl refl (o .«open» .ensures .0) (o .«open» .ensures .1) (omega (arith, p .1 .0, p .1 .1)) (a .pass .ensures .0) (a .pass .ensures .1)
+          (λ i. k .shared-slice-known .given i .fits) _ (p .1 .0),
     )
 
 pub begin-spec : {M : Type 1} → statement M

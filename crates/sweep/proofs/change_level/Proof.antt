@@ -3,7 +3,7 @@ use mathlib.Core.Path.{_≡_, _∙_}
 use native.Mathlib.Omega.{arith}
 use borrow.Author.Needs.{needs}
 use lib.ListN.{length, length-set}
-use Rattle.sweep.proofs.Heads.{waits, level-within, second-within, slot-ordered, slot-key, chooses, chosen-foremost}
+use Rattle.sweep.proofs.Heads.{waits, level-within, second-within, slot-ordered, slot-key, led, chooses, chosen-foremost}
 use Rattle.sweep.proofs.Steps.{stepped-alike}
 use Rattle.sweep.proofs.change_level.Statement.{statement}
 use Rattle.sweep.proofs.change_level.Tie as tie
@@ -41,7 +41,7 @@ array-read-c c =
     let s = c .before .before .before .before .before .before in
     let m = s .args .m in
     let long : length (m .points) ≡ 7 = search needs in
-    omega (arith, c .leaders .ensures .inside, s .pre .0 .ready .point-room, length-set (waits m) (m .level) (m .slot), length-set (m .points) (m .second) (m .waiting))
+    omega (arith, led _ m (s .pre .0) _ (c .leaders .ensures) .inside, s .pre .0 .ready .point-room, length-set (waits m) (m .level) (m .slot), length-set (m .points) (m .second) (m .waiting))
 
 mul-c : tie.Need-mul-c
 mul-c c = record { fits = omega (arith, array-read-c c) }
@@ -51,7 +51,7 @@ array-read-c-2 c =
     let s = c .before .before .before .before .before .before in
     let m = s .args .m in
     let long : length (m .points) ≡ 7 = search needs in
-    omega (arith, c .leaders .ensures .second-inside, s .pre .0 .ready .point-room, length-set (waits m) (m .level) (m .slot), length-set (m .points) (m .second) (m .waiting))
+    omega (arith, led _ m (s .pre .0) _ (c .leaders .ensures) .second-inside, s .pre .0 .ready .point-room, length-set (waits m) (m .level) (m .slot), length-set (m .points) (m .second) (m .waiting))
 
 mul-c-2 : tie.Need-mul-c-2
 mul-c-2 c = record { fits = omega (arith, array-read-c-2 c) }
@@ -64,8 +64,8 @@ go-alone-requires : tie.Need-go-alone-requires
 go-alone-requires c κs =
     let s = c .before .before .before .before .before .before .before .before .before in
     let a = c .before .before .before .leaders in
-    let led = chooses _ _ (s .pre .0) (a .result) (a .ensures) .sweeping in
-    (led, (s .pre .1, (c .before .before .key-at .ensures ∙ slot-key _ _ led, c .if1 .taken)))
+    let next = chooses _ _ (s .pre .0) (a .result) (a .ensures) .sweeping in
+    (next, (s .pre .1, (c .before .before .key-at .ensures ∙ slot-key _ _ next, c .if1 .taken)))
 
 returns : tie.Need-returns
 returns c =
@@ -76,8 +76,8 @@ go-together-requires : tie.Need-go-together-requires
 go-together-requires c κs =
     let s = c .before .before .before .before .before .before .before .before .before in
     let a = c .before .before .before .leaders in
-    let led = chooses _ _ (s .pre .0) (a .result) (a .ensures) .sweeping in
-    (led, (s .pre .1, (c .before .before .key-at .ensures ∙ slot-key _ _ led, chosen-foremost _ _ (s .pre .0) (a .result) (a .ensures))))
+    let next = chooses _ _ (s .pre .0) (a .result) (a .ensures) .sweeping in
+    (next, (s .pre .1, (c .before .before .key-at .ensures ∙ slot-key _ _ next, chosen-foremost _ _ (s .pre .0) (a .result) (a .ensures))))
 
 returns-2 : tie.Need-returns-2
 returns-2 c =

@@ -1,9 +1,8 @@
 -- `sweep::go_together` meets its contract: the look says what is to come of the least docket, and the pass passes it in all levels.
 use mathlib.Core.Path.{refl}
-use native.Mathlib.Omega.{arith}
 use borrow.Author.Needs.{needs}
 use Rattle.sweep.proofs.Steps.{stepped-none}
-use Rattle.sweep.proofs.TogetherSteps.{together-least, together-on, together-found}
+use Rattle.sweep.proofs.TogetherSteps.{together-least, together-passed, together-on, together-found}
 use Rattle.sweep.proofs.go_together.Statement.{statement}
 use Rattle.sweep.proofs.go_together.Tie as tie
 
@@ -41,7 +40,7 @@ pass-requires : tie.Need-pass-requires
 pass-requires c κs =
     let b = c .before .before .before .before .before .before .before in
     let p = b .before .before .before .pre in
-    (rw (p .1 .1 .1 .settled) (p .0 .ready), omega (arith, p .0 .last, b .if1 .left))
+    rw (p .1 .1 .1 .settled) (p .0 .ready)
 
 regroup-requires : tie.Need-regroup-requires
 regroup-requires c κs = search needs
@@ -66,7 +65,7 @@ returns-2 c =
     let b = a .before .before .before .before .before in
     let p = b .before .before .before .pre in
     rw (c .found .ensures, g .regroup .ensures)
-    (together-found (p .0) (p .1 .1 .0) (p .1 .1 .1) (d .pass .ensures) (λ i. b .before .before .shared-slice-known .given i .fits)
+    (together-found (p .0) (p .1 .1 .0) (p .1 .1 .1) (together-passed (p .0) (p .1 .1 .0) (p .1 .1 .1) (b .if1 .left) (d .pass .ensures .0) (d .pass .ensures .1)) (λ i. b .before .before .shared-slice-known .given i .fits)
     (b .if1 .left) _ _ (a .look .ensures) (c .before .before .decided .given .1) _ _ refl)
 
 returns-3 : tie.Need-returns-3
@@ -77,7 +76,7 @@ returns-3 c =
     let b = a .before .before .before .before .before in
     let p = b .before .before .before .pre in
     rw (g .regroup .ensures)
-    (together-on (p .0) (p .1 .1 .0) (p .1 .1 .1) (d .pass .ensures) (λ i. b .before .before .shared-slice-known .given i .fits)
+    (together-on (p .0) (p .1 .1 .0) (p .1 .1 .1) (together-passed (p .0) (p .1 .1 .0) (p .1 .1 .1) (b .if1 .left) (d .pass .ensures .0) (d .pass .ensures .1)) (λ i. b .before .before .shared-slice-known .given i .fits)
     (b .if1 .left) _ _ (a .look .ensures) (c .enum-told .given .1) refl (p .1 .0))
 
 returns-4 : tie.Need-returns-4
@@ -88,7 +87,7 @@ returns-4 c =
     let b = a .before .before .before .before .before in
     let p = b .before .before .before .pre in
     rw (g .regroup .ensures)
-    (together-on (p .0) (p .1 .1 .0) (p .1 .1 .1) (d .pass .ensures) (λ i. b .before .before .shared-slice-known .given i .fits)
+    (together-on (p .0) (p .1 .1 .0) (p .1 .1 .1) (together-passed (p .0) (p .1 .1 .0) (p .1 .1 .1) (b .if1 .left) (d .pass .ensures .0) (d .pass .ensures .1)) (λ i. b .before .before .shared-slice-known .given i .fits)
     (b .if1 .left) _ _ (a .look .ensures) (c .enum-told2 .given .1) refl (p .1 .0))
 
 pub go-together-spec : {M : Type 1} → statement M
