@@ -6,10 +6,11 @@ use mathlib.Core.List.{List, map}
 use mathlib.Core.Logic.{_↔_}
 use native.Mathlib.Omega.{arith}
 use borrow.Author.Tests.{le-ltb}
-use Prim.Native.Nat.{ℕ, _≤_}
+use Prim.Native.Nat.{ℕ, _<_, _≤_}
 use lib.ListN.{length}
 use Rattle.settings.specs.declared.Settings.{Settings}
 use Rattle.settings.specs.Limits.{allowed}
+use Rattle.settings.proofs.Allowed.{allowed-bounds}
 use Rattle.model.specs.Records.{State, fresh, slotless}
 use Rattle.model.specs.Steps.{put, merge-all}
 use Rattle.model.specs.Calls.{Call, Answer, written, bad-clock, out-of-slots, run, answers}
@@ -18,9 +19,10 @@ use Rattle.model.specs.Live as live
 use Rattle.model.specs.PlainMap.{get, map-run, map-refusals, no-rows}
 use Rattle.model.specs.Erasure.{retally, Erased}
 use Rattle.model.proofs.Demands as model
-use Rattle.tables.specs.Words.{clock-of, slots-of}
+use Rattle.model.proofs.Numbers.{run-settings}
+use Rattle.tables.specs.Words.{settings-of, clock-of, slots-of}
 use Rattle.tables.specs.Sound.{table-refusal}
-use Rattle.tables.specs.Placed.{read-state}
+use Rattle.tables.specs.Placed.{row-words, level-words, read-state}
 use Rattle.tables.proofs.Back.{written-reads}
 use Rattle.tables.proofs.FormedSound.{words-sound}
 use Rattle.tables.proofs.FormedSteps.{merge-all-formed, run-formed}
@@ -60,6 +62,13 @@ module _ (n : ℕ) (s : Settings) (low : 1 ≤ n) (high : n ≤ 65535) (ok : all
   -- DEMAND 1: "Each accepted call, and 7, leaves sound tables", so no later call is refused 1, 2 or 3.
   pub always-sound : (cs : List (Call ℕ)) → table-refusal (run-tables (made-tables n s) cs .entries) (run-tables (made-tables n s) cs .levels) ≡ 0
   always-sound cs = rw (runs cs) (words-sound n (run (fresh s (upto n)) cs) (formed cs))
+
+  -- "fixed when a store is made": every list leaves L, T, B and D as the making wrote them.
+  pub settings-stay : (cs : List (Call ℕ)) → settings-of (run-tables (made-tables n s) cs .levels) ≡ s
+  unfolding level-words row-words fresh
+  settings-stay cs =
+      let deep : 0 < s .deepest = omega (arith, allowed-bounds s ok .deepest-low) in
+      rw (runs cs) (run-settings (fresh s (upto n)) cs deep)
 
   -- The state after the list is what its words read as.
   abbrev after : List (Call ℕ) → State ℕ ℕ

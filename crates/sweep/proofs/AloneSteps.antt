@@ -20,31 +20,11 @@ use Rattle.covers.proofs.Skips.{front-ordered}
 use Rattle.lookup.proofs.Walks.{points-say, points-here}
 use Rattle.sweep.specs.declared.Sweep.{Sweep}
 use Rattle.cursors.specs.Cursors.{first-lo, next-lo}
-use Rattle.sweep.specs.Sweeps.{heads, to-come, Sweeping, Stepped}
+use Rattle.sweep.specs.Sweeps.{heads, moved, told, to-come, Sweeping, Stepped}
 use Rattle.sweep.proofs.Seeks.{seek-says, seek-first}
 use Rattle.sweep.proofs.Coming.{points-before, ranges-before, says-at, says-same}
 use Rattle.sweep.proofs.Heads.{waits, level-within, slot-there, slot-ordered, slot-key, alone-points, alone-ranges}
 use Rattle.sweep.proofs.Steps.{Passing, stepped-on, stepped-found}
-
--- The sweep with another slot, and another state.
-abbrev moved : Sweep → ℕ → Bool → Bool → ℕ → ℕ → ℕ → Sweep
-moved m slot going alive key value stamp = record {
-  points = m .points;
-  ranges = m .ranges;
-  levels = m .levels;
-  level = m .level;
-  slot = slot;
-  bound = m .bound;
-  second = m .second;
-  waiting = m .waiting;
-  limit = m .limit;
-  hi = m .hi;
-  going = going;
-  live = alive;
-  key = key;
-  value = value;
-  stamp = stamp;
-}
 
 module _ {e : List ℕ} {m : Sweep} {k : ℕ} (s : Sweeping e m) (is : k ≡ next-lo e (heads m) (m .level)) (lt : k < m .bound) where
   pub alone-least : (i : ℕ) → i < m .levels → k ≤ next-lo e (heads m) i
@@ -83,7 +63,7 @@ module _ {e : List ℕ} {m : Sweep} {k : ℕ} (s : Sweeping e m) (is : k ≡ nex
     module _ (r : ℕ) (seeks : r ≡ first-slot (beginning e (k + 1) (chain-from e (m .slot)))) where
       module _ (going alive : Bool) (key value stamp : ℕ) where
         abbrev after : Sweep
-        after = moved m r going alive key value stamp
+        after = told (moved m r) going alive key value stamp
 
         r-there : getD (heads after) (m .level) 0 ≡ r
         r-there = getD-set-same (waits m) (m .level) r 0 (level-within e m s)
@@ -135,12 +115,12 @@ module _ {e : List ℕ} {m : Sweep} {k : ℕ} (s : Sweeping e m) (is : k ≡ nex
         }
 
       -- The point is a delete, or a put.
-      pub alone-on : m .going ≡ true → kind-of e (m .slot) ≢ 1 → Stepped e m (moved m r (m .going) (m .live) (m .key) (m .value) (m .stamp))
+      pub alone-on : m .going ≡ true → kind-of e (m .slot) ≢ 1 → Stepped e m (moved m r)
       alone-on goes kind =
           stepped-on words s is (passing (m .going) (m .live) (m .key) (m .value) (m .stamp)) le
           (alone-says ∙ rw (ne-eqb (kind-of e (m .slot)) 1 kind)) goes
 
-      pub alone-found : kind-of e (m .slot) ≡ 1 → Stepped e m (moved m r false true k (tally-of e (m .slot)) (stamp-of e (m .slot)))
+      pub alone-found : kind-of e (m .slot) ≡ 1 → Stepped e m (told (moved m r) false true k (tally-of e (m .slot)) (stamp-of e (m .slot)))
       alone-found kind =
           stepped-found words s is (passing false true k (tally-of e (m .slot)) (stamp-of e (m .slot))) le
           (alone-says ∙ rw (eq-eqb (kind-of e (m .slot)) 1 kind)) refl refl refl

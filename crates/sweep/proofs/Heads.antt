@@ -14,7 +14,7 @@ use Rattle.sweep.specs.declared.Sweep.{Sweep}
 use Rattle.cursors.specs.declared.Pair.{Pair}
 use Rattle.cursors.specs.Cursors.{first-lo, next-lo, leading}
 use Rattle.cursors.proofs.Leading.{Leads, leads}
-use Rattle.sweep.specs.Sweeps.{heads, swapped, Sweeping, Foremost}
+use Rattle.sweep.specs.Sweeps.{heads, swapped, told, Sweeping, Foremost}
 
 -- The same to come, and other levels may go on.
 pub record Alike (e : List ℕ) (m r : Sweep) : Type 0 where
@@ -29,26 +29,7 @@ abbrev pub waits : Sweep → List ℕ
 waits m = set (m .points) (m .second) (m .waiting)
 
 -- The same cursors, whether the sweep is on its way or has come to a docket.
-abbrev pub told : Sweep → Bool → Bool → Sweep
-told m going alive = record {
-  points = m .points;
-  ranges = m .ranges;
-  levels = m .levels;
-  level = m .level;
-  slot = m .slot;
-  bound = m .bound;
-  second = m .second;
-  waiting = m .waiting;
-  limit = m .limit;
-  hi = m .hi;
-  going = going;
-  live = alive;
-  key = m .key;
-  value = m .value;
-  stamp = m .stamp;
-}
-
-pub told-sweeping : {e : List ℕ} {m : Sweep} {going alive : Bool} → Sweeping e m → Sweeping e (told m going alive)
+pub told-sweeping : {e : List ℕ} {m : Sweep} {going alive : Bool} {key value stamp : ℕ} → Sweeping e m → Sweeping e (told m going alive key value stamp)
 told-sweeping s = record {
   ready = s .ready;
   inside = s .inside;

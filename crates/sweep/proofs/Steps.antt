@@ -11,8 +11,8 @@ use Rattle.model.specs.Lookup.{Row, absent, found, add-row, lookup}
 use Rattle.covers.proofs.Chains.{Words}
 use Rattle.sweep.specs.declared.Sweep.{Sweep}
 use Rattle.cursors.specs.Cursors.{coming, next-lo, least-lo, Ready}
-use Rattle.sweep.specs.Sweeps.{heads, to-come, Sweeping, Stepped, rest, rows-from, ahead}
-use Rattle.sweep.proofs.Heads.{Alike, told, told-sweeping}
+use Rattle.sweep.specs.Sweeps.{heads, told, to-come, Sweeping, Stepped, rest, rows-from, ahead}
+use Rattle.sweep.proofs.Heads.{Alike, told-sweeping}
 use Rattle.sweep.proofs.Live.{live-none, live-pass}
 use Rattle.sweep.proofs.Coming.{points-before, absent-all}
 
@@ -51,7 +51,7 @@ pub record Passing (e : List ℕ) (m r : Sweep) (k : ℕ) : Type 0 where
 
 module _ {e : List ℕ} {m : Sweep} {k : ℕ} (words : Words e) (s : Sweeping e m) where
   -- The least docket to come is past hi.
-  pub stepped-none : ((i : ℕ) → i < m .levels → k ≤ next-lo e (heads m) i) → m .hi < k → Stepped e m (told m false false)
+  pub stepped-none : ((i : ℕ) → i < m .levels → k ≤ next-lo e (heads m) i) → m .hi < k → Stepped e m (told m false false (m .key) (m .value) (m .stamp))
   stepped-none least past = record {
     sweeping = told-sweeping s;
     leads = live-none (lookup (to-come e m)) k (m .hi) (none-before e (heads m) (m .ranges) (m .levels) k words (s .ready) least) past;

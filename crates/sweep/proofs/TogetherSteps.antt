@@ -4,7 +4,6 @@ use mathlib.Core.Bool.{Bool, true, false}
 use mathlib.Core.List.{List}
 use Prim.Native.Nat.{ℕ, _+_, _<_, _≤_}
 use native.Mathlib.Omega.{arith}
-use lib.ListN.{getD}
 use Rattle.model.specs.Lookup.{absent, found, lookup}
 use Rattle.covers.proofs.Chains.{Words}
 use Rattle.lookup.specs.declared.Decided.{Decided}
@@ -13,29 +12,9 @@ use Rattle.lookup.proofs.Answers.{levels-settle}
 use Rattle.sweep.specs.declared.Sweep.{Sweep}
 use Rattle.cursors.specs.Cursors.{coming, next-lo, change, point-front, range-front}
 use Rattle.cursors.proofs.Passing.{Passed, passed}
-use Rattle.sweep.specs.Sweeps.{heads, to-come, Sweeping, Foremost, Stepped}
+use Rattle.sweep.specs.Sweeps.{heads, regrouped, told, to-come, Sweeping, Foremost, Stepped}
 use Rattle.sweep.proofs.Heads.{unchanged}
 use Rattle.sweep.proofs.Steps.{Passing, stepped-on, stepped-found}
-
--- The sweep with other cursors, and another state; no level is alone.
-abbrev regrouped : Sweep → List ℕ → List ℕ → Bool → Bool → ℕ → ℕ → ℕ → Sweep
-regrouped m points ranges going alive key value stamp = record {
-  points = points;
-  ranges = ranges;
-  levels = m .levels;
-  level = m .level;
-  slot = getD points (m .level) 0;
-  bound = 0;
-  second = m .second;
-  waiting = getD points (m .second) 0;
-  limit = 0;
-  hi = m .hi;
-  going = going;
-  live = alive;
-  key = key;
-  value = value;
-  stamp = stamp;
-}
 
 module _ {e : List ℕ} {m : Sweep} {k : ℕ} (s : Sweeping e m) (is : k ≡ next-lo e (heads m) (m .level)) (f : Foremost e m) where
   pub together-least : (i : ℕ) → i < m .levels → k ≤ next-lo e (heads m) i
@@ -47,7 +26,7 @@ module _ {e : List ℕ} {m : Sweep} {k : ℕ} (s : Sweeping e m) (is : k ≡ nex
 
   module _ {points ranges : List ℕ} (p : Passed e (k + 1) (m .points) (m .ranges) points ranges (m .levels)) (words : Words e)
       (le : k ≤ m .hi) where
-    passing : (going alive : Bool) (key value stamp : ℕ) → Passing e m (regrouped m points ranges going alive key value stamp) k
+    passing : (going alive : Bool) (key value stamp : ℕ) → Passing e m (told (regrouped m points ranges) going alive key value stamp) k
     passing going alive key value stamp =
         let same = unchanged points (m .level) (m .second) in
         record {
@@ -76,11 +55,11 @@ module _ {e : List ℕ} {m : Sweep} {k : ℕ} (s : Sweeping e m) (is : k ≡ nex
       answer = rw (← f .settled, ← says, asked) (sym (levels-settle (coming e (m .points) (m .ranges) (m .levels)) k))
 
       pub together-on : settle w absent ≡ absent → m .going ≡ true
-          → Stepped e m (regrouped m points ranges (m .going) (m .live) (m .key) (m .value) (m .stamp))
+          → Stepped e m (regrouped m points ranges)
       together-on q goes =
           stepped-on words s is (passing (m .going) (m .live) (m .key) (m .value) (m .stamp)) le (answer ∙ q) goes
 
       pub together-found : (value stamp : ℕ) → settle w absent ≡ found value stamp
-          → Stepped e m (regrouped m points ranges false true k value stamp)
+          → Stepped e m (told (regrouped m points ranges) false true k value stamp)
       together-found value stamp q =
           stepped-found words s is (passing false true k value stamp) le (answer ∙ q) refl refl refl

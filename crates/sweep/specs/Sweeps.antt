@@ -1,10 +1,10 @@
 -- A sweep over the levels: what it still has to come, and the rows of the live dockets among it.
 use mathlib.Core.Path.{_≡_}
 use mathlib.Core.Logic.{_≢_}
-use mathlib.Core.Bool.{true, cond}
+use mathlib.Core.Bool.{Bool, true, cond}
 use mathlib.Core.List.{List, [], _∷_}
 use Prim.Native.Nat.{ℕ, _-_, _<_, _≤_}
-use lib.ListN.{set}
+use lib.ListN.{getD, set}
 use Rattle.model.specs.Lookup.{Row, lookup, live}
 use Rattle.model.specs.Records.{Level}
 use Rattle.cursors.specs.Cursors.{coming, next-lo, least-lo, Ready}
@@ -32,9 +32,21 @@ pub record Sweeping (e : List ℕ) (m : Sweep) : Type 0 where
   pub above-second : (i : ℕ) → i < m .second → m .limit ≤ next-lo e (m .ranges) i
   pub last : m .hi ≤ 65535
 
+-- The level goes on from another slot.
+abbrev pub moved : Sweep → ℕ → Sweep
+moved m slot = record { points = m .points; ranges = m .ranges; levels = m .levels; level = m .level; slot = slot; bound = m .bound; second = m .second; waiting = m .waiting; limit = m .limit; hi = m .hi; going = m .going; live = m .live; key = m .key; value = m .value; stamp = m .stamp }
+
 -- The second level goes on, alone before a bound, and the other waits.
 abbrev pub swapped : Sweep → ℕ → Sweep
 swapped m bound = record { points = m .points; ranges = m .ranges; levels = m .levels; level = m .second; slot = m .waiting; bound = bound; second = m .level; waiting = m .slot; limit = m .limit; hi = m .hi; going = m .going; live = m .live; key = m .key; value = m .value; stamp = m .stamp }
+
+-- Other cursors; no level is alone.
+abbrev pub regrouped : Sweep → List ℕ → List ℕ → Sweep
+regrouped m points ranges = record { points = points; ranges = ranges; levels = m .levels; level = m .level; slot = getD points (m .level) 0; bound = 0; second = m .second; waiting = getD points (m .second) 0; limit = 0; hi = m .hi; going = m .going; live = m .live; key = m .key; value = m .value; stamp = m .stamp }
+
+-- The same cursors; the sweep is on its way, or has come to a live docket or to none.
+abbrev pub told : Sweep → Bool → Bool → ℕ → ℕ → ℕ → Sweep
+told m going alive key value stamp = record { points = m .points; ranges = m .ranges; levels = m .levels; level = m .level; slot = m .slot; bound = m .bound; second = m .second; waiting = m .waiting; limit = m .limit; hi = m .hi; going = going; live = alive; key = key; value = value; stamp = stamp }
 
 -- The slot's key is the least to come, and the slot stands in its place among the cursors.
 pub record Foremost (e : List ℕ) (m : Sweep) : Type 0 where

@@ -14,12 +14,11 @@ use rows::tally_of;
 ghost use mathlib.Core.Path.{_≡_};
 ghost use mathlib.Core.Bool.{true, false};
 ghost use Prim.Native.Nat.{_<_, _≤_};
-ghost use lib.ListN.{getD};
 ghost use Rattle.model.specs.Lookup.{lookup, live};
 ghost use Rattle.tables.specs.Placed.{read-state};
 ghost use Rattle.lookup.specs.Readable.{Readable};
 ghost use Rattle.cursors.specs.Cursors.{next-lo};
-ghost use Rattle.sweep.specs.Sweeps.{heads, swapped, Sweeping, Foremost, Stepped, rest, rows-from};
+ghost use Rattle.sweep.specs.Sweeps.{heads, swapped, regrouped, told, Sweeping, Foremost, Stepped, rest, rows-from};
 
 // The kind of a put.
 const PUT: u32 = 1;
@@ -231,7 +230,7 @@ fn go_together(e: &[u32], m: Sweep, key: u32) -> Sweep
 fn regroup(m: Sweep, points: [usize; 7], ranges: [usize; 7]) -> Sweep
     requires { ⌜ m .level < 7 ⌝ }
     requires { ⌜ m .second < 7 ⌝ }
-    ensures { λ r. ⌜ r ≡ record { points = points; ranges = ranges; levels = m .levels; level = m .level; slot = getD points (m .level) 0; bound = 0; second = m .second; waiting = getD points (m .second) 0; limit = 0; hi = m .hi; going = m .going; live = m .live; key = m .key; value = m .value; stamp = m .stamp } ⌝ }
+    ensures { λ r. ⌜ r ≡ regrouped m points ranges ⌝ }
 {
     let level = m.level;
     let second = m.second;
@@ -247,7 +246,7 @@ fn regroup(m: Sweep, points: [usize; 7], ranges: [usize; 7]) -> Sweep
 
 // The sweep has come to a live docket.
 fn found(m: Sweep, key: u32, value: u32, stamp: u32) -> Sweep
-    ensures { λ r. ⌜ r ≡ record { points = m .points; ranges = m .ranges; levels = m .levels; level = m .level; slot = m .slot; bound = m .bound; second = m .second; waiting = m .waiting; limit = m .limit; hi = m .hi; going = false; live = true; key = key; value = value; stamp = stamp } ⌝ }
+    ensures { λ r. ⌜ r ≡ told m false true key value stamp ⌝ }
 {
     let mut r = m;
     r.going = false;
@@ -260,7 +259,7 @@ fn found(m: Sweep, key: u32, value: u32, stamp: u32) -> Sweep
 
 // No live docket is left.
 fn none(m: Sweep) -> Sweep
-    ensures { λ r. ⌜ r ≡ record { points = m .points; ranges = m .ranges; levels = m .levels; level = m .level; slot = m .slot; bound = m .bound; second = m .second; waiting = m .waiting; limit = m .limit; hi = m .hi; going = false; live = false; key = m .key; value = m .value; stamp = m .stamp } ⌝ }
+    ensures { λ r. ⌜ r ≡ told m false false (m .key) (m .value) (m .stamp) ⌝ }
 {
     let mut r = m;
     r.going = false;
