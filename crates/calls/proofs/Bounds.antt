@@ -13,7 +13,7 @@ use Rattle.model.specs.Calls.{Op, written, flush, tick, Call, bad-docket, bad-c
 use Rattle.model.specs.Erasure.{accepted}
 use Rattle.model.proofs.Numbers.{most-merges, merges-most}
 use Rattle.model.proofs.Demands as model
-use Rattle.tables.specs.Words.{slots-of, clock-of}
+use Rattle.tables.specs.Words.{slots-of}
 use Rattle.tables.specs.Sound.{table-refusal}
 use Rattle.tables.specs.Placed.{read-state}
 use Rattle.tables.proofs.LevelSound.{Fits32}
@@ -30,7 +30,7 @@ module _ (w : Tables) (c : Call ℕ) where
   pub refusal-most : call-tables w c .answer .refusal ≤ 7
   refusal-most =
       let t : ℕ = table-refusal (w .entries) (w .levels) in
-      omega (arith, refused-exactly w c, go (eqb t 0) (bad-docket (c .op)) (bad-clock (c .clock) (clock-of (w .entries))) (out-of-slots (c .clock) (c .op) p) t (tables-refuse-low (w .entries) (w .levels)))
+      omega (arith, refused-exactly w c, go (eqb t 0) (bad-docket (c .op)) (bad-clock (c .clock) (p .clock)) (out-of-slots (c .clock) (c .op) p) t (tables-refuse-low (w .entries) (w .levels)))
     where
       go : (a d b o : Bool) (t : ℕ) → t ≤ 3 → cond a (cond d 4 (cond b 5 (cond o 7 0))) t ≤ 7
       go true true b o t h = omega arith

@@ -1,134 +1,102 @@
--- The three demands of document 01 on every word of both tables, for every list of timed calls from what an accepted making left.
--- What holds of a single call on tables of any content stands in Refusals.
-use mathlib.Core.Path.{_≡_, refl, sym, ap, subst, _∙_}
-use mathlib.Core.Bool.{Bool, true, false, cond}
+-- THE DEMANDS of document 01 on every word of both tables, each cited from the file that proves it.
+use mathlib.Core.Path.{_≡_}
+use mathlib.Core.Logic.{_↔_, _≢_}
+use mathlib.Core.Bool.{true, false}
 use mathlib.Core.List.{List, map}
-use mathlib.Core.Logic.{_↔_}
-use native.Mathlib.Omega.{arith}
-use borrow.Author.Tests.{le-ltb}
-use Prim.Native.Nat.{ℕ, _<_, _≤_}
+use Prim.Native.Nat.{ℕ, _≤_}
 use lib.ListN.{length}
 use Rattle.settings.specs.declared.Settings.{Settings}
 use Rattle.settings.specs.Limits.{allowed}
-use Rattle.settings.proofs.Allowed.{allowed-bounds}
-use Rattle.model.specs.Records.{State, fresh, slotless}
-use Rattle.model.specs.Steps.{put, merge-all}
-use Rattle.model.specs.Calls.{Call, Answer, written, bad-clock, out-of-slots, run, answers}
+use Rattle.model.specs.Records.{slotless}
+use Rattle.model.specs.Steps.{put, delete, delete-range}
 use Rattle.model.specs.Lookup.{scan}
-use Rattle.model.specs.Live as live
+use Rattle.model.specs.Calls.{Call, Answer, written, refusing, bad-clock, answers}
 use Rattle.model.specs.PlainMap.{get, map-run, map-refusals, no-rows}
 use Rattle.model.specs.Erasure.{retally, Erased}
-use Rattle.model.proofs.Demands as model
-use Rattle.model.proofs.Numbers.{run-settings}
-use Rattle.tables.specs.Words.{settings-of, clock-of, slots-of}
+use Rattle.tables.specs.Words.{settings-of, clock-of}
 use Rattle.tables.specs.Sound.{table-refusal}
-use Rattle.tables.specs.Placed.{row-words, level-words, read-state}
-use Rattle.tables.proofs.Back.{written-reads}
-use Rattle.tables.proofs.FormedSound.{words-sound}
-use Rattle.tables.proofs.FormedSteps.{merge-all-formed, run-formed}
-use Rattle.tables.specs.Formed.{Formed}
-use Rattle.make.specs.Make.{made-entries, made-levels, upto}
-use Rattle.make.proofs.Fresh.{length-upto, fresh-formed, made-entry-words, made-level-words}
+use Rattle.tables.proofs.LevelSound.{Fits32}
 use Rattle.lookup.specs.Lookup.{answered, lookup-tables}
-use Rattle.lookup.proofs.Refused.{looked-up-words}
 use Rattle.scan.specs.declared.Row.{Row}
-use Rattle.scan.specs.Scan.{filled, scan-tables}
-use Rattle.scan.proofs.Words.{scanned-words}
-use Rattle.calls.specs.Calls.{Tables, words, call-tables, run-tables, answers-tables, merged-tables}
+use Rattle.scan.specs.Scan.{scan-refusal, unfilled, filled, scan-tables}
+use Rattle.scan.proofs.Words as scans
+use Rattle.calls.specs.Calls.{Tables, call-tables, tables-after, answers-tables, made-tables, refusal-number, merged-tables}
 use Rattle.calls.specs.Full.{SlotsLive}
-use Rattle.calls.proofs.Runs.{words-slots, run-words, answers-words}
-use Rattle.calls.proofs.Refusals.{refused-exactly}
-use Rattle.calls.proofs.Live.{live-words}
+use Rattle.calls.proofs.Runs as runs
+use Rattle.calls.proofs.Refusals as refusals
+use Rattle.calls.proofs.Made as made
 
-seven : (b : Bool) → _≡_ {A = ℕ} (cond b 7 0) 7 → b ≡ true
-seven true q = refl
-seven false q = absurd (omega arith)
+-- DEMAND 1, for tables of any content. Each timed call is refused in exactly the listed cases, and a refusal "gives its number and zeros".
+module _ (w : Tables) (c : Call ℕ) where
+  pub refused-exactly : call-tables w c .answer .refusal ≡ refusal-number w c
+  refused-exactly = refusals.refused-exactly w c
 
--- The tables of a store just made, with n slots.
-abbrev pub made-tables : ℕ → Settings → Tables
-made-tables n s = record { entries = made-entries n; levels = made-levels s }
+  pub refused-zeros : call-tables w c .answer .refusal ≢ 0 → call-tables w c .answer ≡ refusing (call-tables w c .answer .refusal)
+  refused-zeros = refusals.refused-zeros w c
 
+  -- A refused call changes no word, save under 7: "tables stay merged, clock as before".
+  pub refused-words : Fits32 (w .entries) → call-tables w c .answer .refusal ≢ 0 → call-tables w c .answer .refusal ≢ 7 → call-tables w c .tables ≡ w
+  refused-words fits = runs.refused-words w fits c
+
+  pub refused-7-leaves : call-tables w c .answer .refusal ≡ 7 → call-tables w c .tables ≡ merged-tables w
+  refused-7-leaves = refusals.refused-7-leaves w c
+
+  pub refused-7-clock : Fits32 (w .entries) → call-tables w c .answer .refusal ≡ 7 → clock-of (call-tables w c .tables .entries) ≡ clock-of (w .entries)
+  refused-7-clock = refusals.refused-7-clock w c
+
+  -- Sound tables stay sound.
+  pub stays-sound : Fits32 (w .entries) → table-refusal (w .entries) (w .levels) ≡ 0
+      → table-refusal (call-tables w c .tables .entries) (call-tables w c .tables .levels) ≡ 0
+  stays-sound fits = refusals.stays-sound w fits c
+
+-- A delete is never refused for lack of a slot.
+module _ (w : Tables) where
+  pub delete-never-full : (t k : ℕ) → call-tables w (record { clock = t; op = written (delete k) }) .answer .refusal ≢ 7
+  delete-never-full = refusals.delete-never-full w
+
+  pub delete-range-never-full : (t lo hi : ℕ) → call-tables w (record { clock = t; op = written (delete-range lo hi) }) .answer .refusal ≢ 7
+  delete-range-never-full = refusals.delete-range-never-full w
+
+-- A scan is refused in exactly the listed cases, and then leaves every row.
+module _ (e l : List ℕ) (lo hi : ℕ) (rows : List Row) where
+  pub scan-refused-exactly : scan-tables e l lo hi rows .answer .refusal ≡ scan-refusal e l lo hi
+  scan-refused-exactly = scans.refused-exactly e l lo hi rows
+
+  pub scan-refused-leaves : scan-refusal e l lo hi ≢ 0 → scan-tables e l lo hi rows ≡ unfilled (scan-refusal e l lo hi) rows
+  scan-refused-leaves = scans.refused-leaves e l lo hi rows
+
+-- From what an accepted making left, after every list of timed calls.
 module _ (n : ℕ) (s : Settings) (low : 1 ≤ n) (high : n ≤ 65535) (ok : allowed s ≡ true) where
-  made-words : made-tables n s ≡ words n (fresh s (upto n))
-  made-words = rw (made-entry-words n s low high ok, made-level-words n s)
+  -- DEMAND 1: no call is ever refused 1, 2 or 3.
+  pub always-sound : (cs : List (Call ℕ)) → table-refusal (tables-after n s cs .entries) (tables-after n s cs .levels) ≡ 0
+  always-sound = made.always-sound n s low high ok
 
-  -- A list of calls on the words is the list of steps on the state that they read as.
-  pub runs : (cs : List (Call ℕ)) → run-tables (made-tables n s) cs ≡ words n (run (fresh s (upto n)) cs)
-  runs cs = rw made-words (run-words n (fresh s (upto n)) cs (fresh-formed n s low high ok))
+  -- L, T, B and D are "fixed when a store is made".
+  pub settings-stay : (cs : List (Call ℕ)) → settings-of (tables-after n s cs .levels) ≡ s
+  settings-stay = made.settings-stay n s low high ok
 
-  formed : (cs : List (Call ℕ)) → Formed n (run (fresh s (upto n)) cs)
-  formed cs = run-formed n (fresh s (upto n)) cs (fresh-formed n s low high ok)
-
-  -- DEMAND 1: "Each accepted call, and 7, leaves sound tables", so no later call is refused 1, 2 or 3.
-  pub always-sound : (cs : List (Call ℕ)) → table-refusal (run-tables (made-tables n s) cs .entries) (run-tables (made-tables n s) cs .levels) ≡ 0
-  always-sound cs = rw (runs cs) (words-sound n (run (fresh s (upto n)) cs) (formed cs))
-
-  -- "fixed when a store is made": every list leaves L, T, B and D as the making wrote them.
-  pub settings-stay : (cs : List (Call ℕ)) → settings-of (run-tables (made-tables n s) cs .levels) ≡ s
-  unfolding level-words row-words fresh
-  settings-stay cs =
-      let deep : 0 < s .deepest = omega (arith, allowed-bounds s ok .deepest-low) in
-      rw (runs cs) (run-settings (fresh s (upto n)) cs deep)
-
-  -- The state after the list is what its words read as.
-  abbrev after : List (Call ℕ) → State ℕ ℕ
-  after cs = run (fresh s (upto n)) cs
-
-  slots-are : (cs : List (Call ℕ)) → slots-of (run-tables (made-tables n s) cs .entries) ≡ n
-  slots-are cs = rw (runs cs) (words-slots n (after cs) (formed cs))
-
-  reads : (cs : List (Call ℕ)) → read-state (run-tables (made-tables n s) cs .entries) (run-tables (made-tables n s) cs .levels) ≡ after cs
-  reads cs = rw (runs cs) (written-reads n (after cs) (formed cs))
-
-  -- DEMAND 1: '"full" comes only when every slot holds a different live docket and the put's is not among them', and then always.
-  pub full-exactly : (cs : List (Call ℕ)) (t k a : ℕ) → k ≤ 65535 → bad-clock t (clock-of (run-tables (made-tables n s) cs .entries)) ≡ false
-      → (call-tables (run-tables (made-tables n s) cs) (record { clock = t; op = written (put k a) }) .answer .refusal ≡ 7)
-      ↔ SlotsLive n k (merged-tables (run-tables (made-tables n s) cs))
-  full-exactly cs t k a h b =
-      let w : Tables = run-tables (made-tables n s) cs in
-      let c : Call ℕ = record { clock = t; op = written (put k a) } in
-      let m : State ℕ ℕ = merge-all (after cs) .state in
-      let merged : merged-tables w ≡ words n m = rw (slots-are cs, reads cs) in
-      let number : call-tables w c .answer .refusal ≡ cond (out-of-slots t (written (put k a)) (after cs)) 7 0 =
-      refused-exactly w c ∙ rw (always-sound cs, le-ltb 65535 k h, b, reads cs) in
-      let full = model.full-exactly s ok (upto n) cs t k a in
-      let same = live-words n m (merge-all-formed n (after cs) (formed cs)) k in (
-        λ q. rw merged (same .0 (rw (length-upto n) at (full .0 (seven (out-of-slots t (written (put k a)) (after cs)) (sym number ∙ q))))),
-        λ q. number ∙ ap (λ x. cond x 7 0) (full .1 (subst (λ x. live.SlotsLive x k m) (sym (length-upto n)) (same .1 (rw merged at q)))),
-      )
+  -- 'Full' comes only when every slot holds a different live docket and the put's is not among them, and then always.
+  pub full-exactly : (cs : List (Call ℕ)) (t k a : ℕ) → k ≤ 65535 → bad-clock t (clock-of (tables-after n s cs .entries)) ≡ false
+      → (call-tables (tables-after n s cs) (record { clock = t; op = written (put k a) }) .answer .refusal ≡ 7) ↔ SlotsLive n k (merged-tables (tables-after n s cs))
+  full-exactly = made.full-exactly n s low high ok
 
   -- DEMAND 2: lookups answer as the plain map after the same list.
   pub lookups-as-map : (cs : List (Call ℕ)) (k : ℕ) → k ≤ 65535
-      → lookup-tables (run-tables (made-tables n s) cs .entries) (run-tables (made-tables n s) cs .levels) k ≡ answered (get (map-run n no-rows cs .rows) k)
-  lookups-as-map cs k h =
-      rw (runs cs)
-      (looked-up-words n (run (fresh s (upto n)) cs) k (formed cs) h
-      ∙ ap answered (model.lookups-as-map s ok (upto n) cs k ∙ ap (λ m. get (map-run m no-rows cs .rows) k) (length-upto n)))
+      → lookup-tables (tables-after n s cs .entries) (tables-after n s cs .levels) k ≡ answered (get (map-run n no-rows cs .rows) k)
+  lookups-as-map = made.lookups-as-map n s low high ok
 
-  -- DEMAND 2: and so do scans: count, 'more', the next docket and every row.
+  -- So do scans: count, 'more', the next docket and every row.
   pub scans-as-map : (cs : List (Call ℕ)) (lo hi : ℕ) (rows : List Row) → lo ≤ hi → hi ≤ 65535
-      → scan-tables (run-tables (made-tables n s) cs .entries) (run-tables (made-tables n s) cs .levels) lo hi rows
-      ≡ filled (scan (get (map-run n no-rows cs .rows)) lo hi (length rows)) rows
-  scans-as-map cs lo hi rows order high =
-      rw (runs cs)
-      (scanned-words n (run (fresh s (upto n)) cs) lo hi rows (formed cs) order high
-      ∙ ap (λ found. filled found rows) (model.scans-as-map s ok (upto n) cs lo hi (length rows) ∙ ap (λ m. scan (get (map-run m no-rows cs .rows)) lo hi (length rows)) (length-upto n)))
+      → scan-tables (tables-after n s cs .entries) (tables-after n s cs .levels) lo hi rows ≡ filled (scan (get (map-run n no-rows cs .rows)) lo hi (length rows)) rows
+  scans-as-map = made.scans-as-map n s low high ok
 
-  -- DEMAND 2: merges and purged numbers are those of the steps, and calls are refused as by a map of as many places.
-  answers-of-words : (cs : List (Call ℕ)) → answers-tables (made-tables n s) cs ≡ answers (fresh s (upto n)) cs
-  answers-of-words cs = rw made-words (answers-words n (fresh s (upto n)) cs (fresh-formed n s low high ok))
+  -- Calls are refused as by a map of as many places; merges and purged are those of document 01's steps.
+  pub refusals-as-map : (cs : List (Call ℕ)) → map (λ (r : Answer). r .refusal) (answers-tables (made-tables n s) cs) ≡ map-refusals n no-rows cs
+  refusals-as-map = made.refusals-as-map n s low high ok
 
   pub answers-as-steps : (cs : List (Call ℕ)) → answers-tables (made-tables n s) cs ≡ answers (slotless n s) cs
-  answers-as-steps cs = answers-of-words cs ∙ model.answers-without-slots s ok (upto n) cs ∙ ap (λ x. answers (slotless x s) cs) (length-upto n)
+  answers-as-steps = made.answers-as-steps n s low high ok
 
-  pub refusals-as-map : (cs : List (Call ℕ)) → map (λ (r : Answer). r .refusal) (answers-tables (made-tables n s) cs) ≡ map-refusals n no-rows cs
-  refusals-as-map cs =
-      ap (map (λ (r : Answer). r .refusal)) (answers-of-words cs)
-      ∙ model.refusals-as-map s ok (upto n) cs ∙ ap (λ x. map-refusals x no-rows cs) (length-upto n)
-
-  -- DEMAND 3: "had that put carried any other tally, every word of both tables would be the same", of which settings and list alone decide the premises.
-  pub erased-leaves-nothing : (cs : List (Call ℕ)) (i j k a v : ℕ) → Erased (slotless n s) cs i j k a
-      → run-tables (made-tables n s) (retally i k v cs) ≡ run-tables (made-tables n s) cs
-  erased-leaves-nothing cs i j k a v e =
-      runs (retally i k v cs)
-      ∙ ap (words n) (model.erased-leaves-nothing s ok (upto n) cs i j k a v (subst (λ x. Erased (slotless x s) cs i j k a) (sym (length-upto n)) e)) ∙ sym (runs cs)
+  -- DEMAND 3: had that put carried any other tally, every word of both tables would be the same. Settings and list alone decide the premises.
+  pub erased-leaves-nothing : (cs : List (Call ℕ)) (i j k a v : ℕ) → Erased (slotless n s) cs i j k a → tables-after n s (retally i k v cs) ≡ tables-after n s cs
+  erased-leaves-nothing = made.erased n s low high ok

@@ -3,4 +3,5 @@ pub mod Runs
 pub mod Refusals
 pub mod Live
 pub mod Bounds
+pub mod Made
 pub mod Demands

@@ -32,16 +32,12 @@ module _ (w : Tables) (c : Call ℕ) where
   abbrev t : ℕ
   t = table-refusal (w .entries) (w .levels)
 
-  read-clock : p .clock ≡ clock-of (w .entries)
-  unfolding read-state
-  read-clock = refl
-
-  -- "each call … is refused in exactly the listed cases"
+  -- Each call is refused in exactly the listed cases.
   pub refused-exactly : call-tables w c .answer .refusal ≡ refusal-number w c
   unfolding call-tables
   refused-exactly =
       cond-ap (λ (r : Called). r .answer .refusal) (eqb t 0) (wrote (slots-of (w .entries)) (step p c)) (record { tables = w; answer = refusing t })
-      ∙ ap (λ k. cond (eqb t 0) k t) (model.refused-exactly p c ∙ ap (λ k. cond (bad-docket (c .op)) 4 (cond (bad-clock (c .clock) k) 5 (cond (out-of-slots (c .clock) (c .op) p) 7 0))) read-clock)
+      ∙ ap (λ k. cond (eqb t 0) k t) (model.refused-exactly p c)
 
   step-answer : step p c .answer .refusal ≢ 0 → step p c .answer ≡ refusing (step p c .answer .refusal)
   unfolding accepted
@@ -93,9 +89,9 @@ module _ (w : Tables) (c : Call ℕ) where
       let back : clock-of (entry-words n q) ≡ q .clock = ap (λ (s : State ℕ ℕ). s .clock) (written-reads n q (merge-all-formed n p f)) in
       ap (λ (x : Tables). clock-of (x .entries)) (refused-7-leaves h) ∙ back ∙ merge-all-clock p (omega (arith, deep))
 
-  -- "A delete is never refused for lack of a slot", nor is anything but a put.
+  -- A delete is never refused for lack of a slot, nor is anything but a put.
   pub never-full : out-of-slots (c .clock) (c .op) p ≡ false → call-tables w c .answer .refusal ≢ 7
-  never-full f h = go (eqb t 0) (bad-docket (c .op)) (bad-clock (c .clock) (clock-of (w .entries))) (rw f at (sym refused-exactly ∙ h))
+  never-full f h = go (eqb t 0) (bad-docket (c .op)) (bad-clock (c .clock) (p .clock)) (rw f at (sym refused-exactly ∙ h))
     where
       go : (a d b : Bool) → cond a (cond d 4 (cond b 5 (cond false 7 0))) t ≡ 7 → ⊥
       go true true b q = absurd (omega arith)

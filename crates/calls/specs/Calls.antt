@@ -1,14 +1,17 @@
--- A timed call on the two tables: "checks 1, 2, 3, 4, 5 in this order on tables of any content, then acts".
+-- A timed call on the two tables, of any content: refused "by where they are found", else the step of the state that they read as.
 use mathlib.Core.Bool.{cond}
 use mathlib.Core.List.{List, [], _∷_}
 use Prim.Native.Nat.{ℕ}
 use lib.Dec.{eqb}
+use Rattle.settings.specs.declared.Settings.{Settings}
 use Rattle.model.specs.Records.{State}
 use Rattle.model.specs.Steps.{merge-all}
-use Rattle.model.specs.Calls.{Answer, Call, Outcome, bad-docket, bad-clock, out-of-slots, refusing, step}
-use Rattle.tables.specs.Words.{clock-of, slots-of}
+use Rattle.model.specs.Calls.{Answer, Call, Outcome, refusing, step}
+use Rattle.model.specs.Calls as model
+use Rattle.tables.specs.Words.{slots-of}
 use Rattle.tables.specs.Sound.{table-refusal}
 use Rattle.tables.specs.Placed.{read-state, entry-words, level-words}
+use Rattle.make.specs.Make.{made-entries, made-levels}
 
 -- Every word of both tables.
 pub record Tables : Type 0 where
@@ -39,19 +42,23 @@ unfoldable pub run-tables : Tables → List (Call ℕ) → Tables
 run-tables w [] = w
 run-tables w (c ∷ cs) = run-tables (call-tables w c .tables) cs
 
+-- The tables of a store just made, with n slots; and after a list of timed calls.
+abbrev pub made-tables : ℕ → Settings → Tables
+made-tables n s = record { entries = made-entries n; levels = made-levels s }
+
+abbrev pub tables-after : ℕ → Settings → List (Call ℕ) → Tables
+tables-after n s cs = run-tables (made-tables n s) cs
+
 -- What the calls of the list answer.
 unfoldable pub answers-tables : Tables → List (Call ℕ) → List Answer
 answers-tables w [] = []
 answers-tables w (c ∷ cs) = call-tables w c .answer ∷ answers-tables (call-tables w c .tables) cs
 
--- The refusal's number, "by where they are found": the tables, the docket, the clock, the free chain.
+-- The refusal's number, "by where they are found": the tables first, then the docket, the clock, the free chain.
 abbrev pub refusal-number : Tables → Call ℕ → ℕ
 refusal-number w c =
-    let p = read-state (w .entries) (w .levels) in
     cond (eqb (table-refusal (w .entries) (w .levels)) 0)
-    (cond (bad-docket (c .op)) 4
-    (cond (bad-clock (c .clock) (clock-of (w .entries))) 5
-    (cond (out-of-slots (c .clock) (c .op) p) 7 0)))
+    (model.refusal-number (read-state (w .entries) (w .levels)) c)
     (table-refusal (w .entries) (w .levels))
 
 -- Levels 0 to L−1 merged in order, and nothing else: "tables stay merged, clock as before".

@@ -1,4 +1,4 @@
--- The first demand's words on the tables: "every slot holds a different live docket and the put's is not among them".
+-- Demand 1 on the tables, when a put is refused 7: every slot holds a different live docket, and the put's is not among them.
 use mathlib.Core.Path.{_≡_}
 use mathlib.Core.Bool.{Bool, true, false}
 use mathlib.Core.List.{List}

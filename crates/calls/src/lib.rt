@@ -1,1 +1,1 @@
-// The timed calls on the two tables: no code yet, only what is to be computed and what is proved of it.
+// The timed calls on the two tables as definitions, with the three demands on every word; no code.

@@ -15,7 +15,7 @@ use Rattle.model.specs.Merge.{settled}
 use Rattle.model.specs.Steps.{put, delete, delete-range, merge-all, no-slot, due, pass}
 use Rattle.model.specs.Lookup.{scan, lookup}
 use Rattle.model.specs.Live.{SlotsLive}
-use Rattle.model.specs.Calls.{written, Call, Outcome, refusing, bad-docket, bad-clock, count-written, prepared, out-of-slots, step, run, answers, refusals}
+use Rattle.model.specs.Calls.{written, Call, Outcome, refusing, count-written, prepared, out-of-slots, refusal-number, step, run, answers, refusals}
 use Rattle.model.specs.PlainMap.{get, map-run, map-refusals, no-rows}
 use Rattle.model.specs.Erasure.{retally, accepted, Erased}
 use Rattle.model.specs.Renaming.{map-state, map-call}
@@ -32,19 +32,12 @@ use Rattle.model.proofs.Erasure.{erasure}
 
 -- DEMAND 1, first for every state, reachable or not.
 module _ {S A : Type 0} (s : State S A) (c : Call A) where
-  -- The refusal's number, in the order of the table; 8 is not among them.
-  abbrev pub number : ℕ
-  number =
-      cond (bad-docket (c .op)) 4
-      (cond (bad-clock (c .clock) (s .clock)) 5
-      (cond (out-of-slots (c .clock) (c .op) s) 7 0))
-
-  -- "each call … is refused in exactly the listed cases"
-  pub refused-exactly : step s c .answer .refusal ≡ number
+  -- Each call is refused in exactly the listed cases.
+  pub refused-exactly : step s c .answer .refusal ≡ refusal-number s c
   unfolding accepted-outcome
   refused-exactly = go (step s c) (step-view s c)
     where
-      go : (r : Outcome S A) → StepView s c r → r .answer .refusal ≡ number
+      go : (r : Outcome S A) → StepView s c r → r .answer .refusal ≡ refusal-number s c
       go r (refused-4 d) = rw d
       go r (refused-5 d e) = rw (d, e)
       go r (refused-7 d e f) = rw (d, e, f)
@@ -61,11 +54,11 @@ module _ {S A : Type 0} (s : State S A) (c : Call A) where
       go r (passed d e f) = omega arith
 
   -- "A refusal gives its number and zeros. Tables … are unchanged, save under 7".
-  pub refused-answer : accepted s c ≡ false → step s c .answer ≡ refusing number
+  pub refused-answer : accepted s c ≡ false → step s c .answer ≡ refusing (refusal-number s c)
   unfolding accepted accepted-outcome
   refused-answer = go (step s c) (step-view s c)
     where
-      go : (r : Outcome S A) → StepView s c r → eqb (r .answer .refusal) 0 ≡ false → r .answer ≡ refusing number
+      go : (r : Outcome S A) → StepView s c r → eqb (r .answer .refusal) 0 ≡ false → r .answer ≡ refusing (refusal-number s c)
       go r (refused-4 d) h = rw d
       go r (refused-5 d e) h = rw (d, e)
       go r (refused-7 d e f) h = rw (d, e, f)
@@ -109,12 +102,12 @@ module _ {S A : Type 0} (settings : Settings) (ok : allowed settings ≡ true) (
   positive : 0 < made .settings .deepest
   positive = omega (arith, whole .formed .deep)
 
-  -- '"full" comes only when every slot holds a different live docket and the put's is not among them', and then always.
+  -- 'Full' comes only when every slot holds a different live docket and the put's is not among them, and then always.
   pub full-exactly : (t k : ℕ) (a : A)
       → (out-of-slots t (written (put k a)) (run (fresh settings slots) cs) ≡ true) ↔ SlotsLive (length slots) k (merge-all (run (fresh settings slots) cs) .state)
   full-exactly t k a = (full-live (length slots) made whole t k a, λ live. live-full (length slots) made whole k live t a)
 
-  -- "A delete is never refused for lack of a slot".
+  -- A delete is never refused for lack of a slot.
   pub delete-never-full : (t k : ℕ) → out-of-slots t (written (delete k)) (run (fresh settings slots) cs) ≡ false
   unfolding no-slot
   delete-never-full t k = refl
@@ -138,7 +131,7 @@ module _ {S A : Type 0} (settings : Settings) (ok : allowed settings ≡ true) (
       go r (refused-7 a b f) e = record { clock = merge-all-clock made positive; settings = d .same; deepest = d .source; levels = d .levels }
       go r (passed a b f) e = absurd (omega arith)
 
-  -- DEMAND 2: "from a fresh store, lookups and scans answer as a map does", and calls are refused as by a map of as many places.
+  -- DEMAND 2: from a fresh store, lookups and scans answer as a map does, and calls are refused as by a map of as many places.
   alike : Alike (length slots) made (map-run (length slots) no-rows cs)
   alike = run-alike (length slots) (fresh settings slots) no-rows cs (fresh-alike settings slots ok)
 
@@ -170,7 +163,7 @@ module _ {S A : Type 0} (settings : Settings) (ok : allowed settings ≡ true) (
   pub free-and-held : length (run (fresh settings slots) cs .free) + held-all (run (fresh settings slots) cs .levels) ≡ length slots
   free-and-held = whole .all
 
-  -- DEMAND 3: "had that put carried any other tally", the state would be the same. What became of the delete is worked out without slots.
+  -- DEMAND 3: had that put carried any other tally, the state would be the same. What became of the delete is worked out without slots.
   pub erased-leaves-nothing : (i j k : ℕ) (a v : A) → Erased (slotless (length slots) settings) cs i j k a
       → run (fresh settings slots) (retally i k v cs) ≡ run (fresh settings slots) cs
   erased-leaves-nothing i j k a v e = erasure settings slots cs i j k a v ok (erased-with-slots settings slots cs i j k a e)

@@ -6,6 +6,7 @@ use lib.Dec.{ltb, eqb}
 use Rattle.model.specs.Records.{State, held-all}
 use Rattle.model.specs.Steps.{Work, Write, put, delete, delete-range, begin, merge-level, merge-all, write, no-slot, pass, still-due}
 
+-- What a timed call does: a write, a flush or a tick.
 pub data Op (A : Type 0) : Type 0 where
   written : Write A → Op A
   flush : Op A
@@ -22,10 +23,12 @@ pub record Answer : Type 0 where
   pub merges : ℕ
   pub purged : ℕ
 
+-- What a call leaves, and its answer.
 pub record Outcome (S A : Type 0) : Type 0 where
   pub state : State S A
   pub answer : Answer
 
+-- The answer of a refusal.
 abbrev pub refusing : ℕ → Answer
 refusing n = record { refusal = n; merges = 0; purged = 0 }
 
@@ -49,6 +52,7 @@ abbrev pub bad-clock : ℕ → ℕ → Bool
 bad-clock t last = eqb t 0 || ltb t last
 
 module _ {S A : Type 0} where
+  -- The call's clock becomes the last accepted one.
   abbrev pub timed : ℕ → State S A → State S A
   timed t s = record { settings = s .settings; clock = t; free = s .free; levels = s .levels }
 
@@ -58,11 +62,13 @@ module _ {S A : Type 0} where
   prepared t flush s = merge-level 0 (begin s)
   prepared t tick s = begin s
 
+  -- Refusal 7, which only a put meets.
   abbrev pub out-of-slots : ℕ → Op A → State S A → Bool
   out-of-slots t (written w) s = no-slot t w s
   out-of-slots t flush s = false
   out-of-slots t tick s = false
 
+  -- A refusal that leaves this state.
   abbrev pub refused : ℕ → State S A → Outcome S A
   refused n s = record { state = s; answer = refusing n }
 
@@ -74,6 +80,13 @@ module _ {S A : Type 0} where
       cond (still-due t (p .state)) (refused 8 (timed t (p .state)))
       (record { state = timed t (p .state); answer = record { refusal = 0; merges = p .merges; purged = purged } })
 
+  -- The refusal's number, "by where they are found": the docket, the clock, the free chain. Refusal 8 never comes.
+  abbrev pub refusal-number : State S A → Call A → ℕ
+  refusal-number s c =
+      cond (bad-docket (c .op)) 4
+      (cond (bad-clock (c .clock) (s .clock)) 5
+      (cond (out-of-slots (c .clock) (c .op) s) 7 0))
+
   -- "The order is the table's". Under 7 "tables stay merged, clock as before".
   unfoldable pub step : State S A → Call A → Outcome S A
   step s c =
@@ -82,10 +95,12 @@ module _ {S A : Type 0} where
       (cond (out-of-slots (c .clock) (c .op) s) (refused 7 (merge-all s .state))
       (finish (c .clock) (c .op) s (prepared (c .clock) (c .op) s))))
 
+  -- A list of timed calls, one after the other, refused ones too: the state that it leaves.
   unfoldable pub run : State S A → List (Call A) → State S A
   run s [] = s
   run s (c ∷ cs) = run (step s c .state) cs
 
+  -- What they answer.
   unfoldable pub answers : State S A → List (Call A) → List Answer
   answers s [] = []
   answers s (c ∷ cs) = let r = step s c in r .answer ∷ answers (r .state) cs

@@ -33,6 +33,7 @@ module _ {S A : Type 0} where
   merges-before t flush s = true
   merges-before t tick s = false
 
+  -- Level 0 is merged in the call.
   unfoldable pub merges-buffer : State S A → Call A → Bool
   merges-buffer s c =
       not (bad-docket (c .op) || bad-clock (c .clock) (s .clock))
@@ -53,14 +54,19 @@ module _ {S A : Type 0} where
       pass-merges (before s cs j) (call-at cs j)
       || merged-in (step (before s cs j) (call-at cs j) .state) (drop (suc j) cs)
 
--- In a list run from s, the put of docket k at place i, with the tally a, is erased by the delete at place j.
+-- Demand 3's premises: in a list run from s, the put of docket k at place i, with the tally a, is covered by the delete at place j, which was accepted and has left
+-- the buffer, and the term has passed.
 pub record Erased {S A : Type 0} (s : State S A) (cs : List (Call A)) (i j k : ℕ) (a : A) : Type 0 where
+  -- the put, accepted or refused
   pub is-put : call-at cs i .op ≡ written (put k a)
   pub after : i < j
   pub write : Write A
   pub is-write : call-at cs j .op ≡ written write
+  -- "A delete covers the dockets from its lo to its hi."
   pub covers : deletes write k ≡ true
+  -- "Accepted is a call that meets no refusal."
   pub accept : accepted (before s cs j) (call-at cs j) ≡ true
   -- "it acted on level L directly where the steps say so, else it entered the buffer"
   pub fate : full (call-at cs j .clock) write (before s cs j) || merged-after s cs j ≡ true
+  -- D ticks or more lie between the delete's clock and the last accepted one.
   pub term : s .settings .term ≤ run s cs .clock - call-at cs j .clock

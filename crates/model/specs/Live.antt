@@ -1,4 +1,4 @@
--- The first demand's words: "every slot holds a different live docket and the put's is not among them".
+-- Demand 1, when a put is refused 7: every slot holds a different live docket, and the put's is not among them.
 use mathlib.Core.Path.{_≡_}
 use mathlib.Core.Bool.{true, false}
 use mathlib.Core.List.{List, [], _∷_, _++_}
@@ -10,6 +10,7 @@ use Rattle.model.specs.Merge.{names, point-before}
 use Rattle.model.specs.Lookup.{is-found, lookup}
 
 module _ {S A : Type 0} where
+  -- The points of all levels, level by level.
   abbrev pub all-points : List (Level S A) → List (Point S A)
   all-points [] = []
   all-points (l ∷ ls) = l .points ++ all-points ls

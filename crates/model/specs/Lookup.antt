@@ -18,6 +18,7 @@ pub record Row (A : Type 0) : Type 0 where
   pub tally : A
   pub stamp : ℕ
 
+-- What a scan gives: the rows that it fills and how many they are, 'more', and the next docket.
 pub record Scan (A : Type 0) : Type 0 where
   pub rows : List (Row A)
   pub count : ℕ
@@ -25,6 +26,7 @@ pub record Scan (A : Type 0) : Type 0 where
   pub next : ℕ
 
 module _ {A : Type 0} where
+  -- What a point says of its docket: a put its tally and its stamp, a delete that the docket is absent.
   abbrev pub reads : Entry A → ℕ → Found A
   reads (value a) t = found a t
   reads tombstone t = absent
@@ -34,15 +36,17 @@ module _ {A : Type 0} where
   is-found absent = false
   is-found (found a t) = true
 
-  -- The rows of the live dockets among n from k on, ascending.
+  -- A docket's row before those of later dockets, if it is live.
   abbrev pub add-row : ℕ → Found A → List (Row A) → List (Row A)
   add-row k absent rows = rows
   add-row k (found a t) rows = record { key = k; tally = a; stamp = t } ∷ rows
 
+  -- The rows of the live dockets among n from k on, ascending.
   unfoldable pub live-from : (ℕ → Found A) → ℕ → ℕ → List (Row A)
   live-from look k zero = []
   live-from look k (suc n) = add-row k (look k) (live-from look (suc k) n)
 
+  -- "the live dockets from lo to hi"
   abbrev pub live : (ℕ → Found A) → ℕ → ℕ → List (Row A)
   live look lo hi = live-from look lo (suc hi - lo)
 
@@ -63,11 +67,12 @@ module _ {A : Type 0} where
       }
 
 module _ {S A : Type 0} where
-  -- "The first level with a point of the docket decides; before going deeper, a range over the docket means absent."
+  -- What the points of a level decide of a docket, or else what the deeper levels do.
   unfoldable pub find : List (Point S A) → ℕ → Found A → Found A
   find [] k deeper = deeper
   find (p ∷ ps) k deeper = cond (eqb (p .key) k) (reads (p .entry) (p .stamp)) (find ps k deeper)
 
+  -- "The first level with a point of the docket decides; before going deeper, a range over the docket means absent."
   unfoldable pub lookup : List (Level S A) → ℕ → Found A
   lookup [] k = absent
   lookup (l ∷ ls) k = find (l .points) k (cond (covered (l .ranges) k) absent (lookup ls k))

@@ -82,12 +82,14 @@ module _ {S A : Type 0} where
   unfoldable pub settled : Level S A → Level S A
   settled l = record { points = select (λ p. is-put (p .entry)) (l .points); ranges = []; owed = 0 }
 
+  -- The slots of the deletes that are then wiped.
   abbrev pub delete-slots : Level S A → List S
   delete-slots l = point-slots (reject (λ p. is-put (p .entry)) (l .points)) ++ range-slots (l .ranges)
 
-  -- The level that the merge leaves at i+1, and the slots that it frees.
+  -- The level that the merge leaves at i+1.
   unfoldable pub joined : Bool → Level S A → Level S A → Level S A
   joined deepest u l = cond deepest (settled (merged u l)) (merged u l)
 
+  -- The slots that it frees, in the order in which they are freed.
   unfoldable pub freed : Bool → Level S A → Level S A → List S
   freed deepest u l = cond deepest (gone u l ++ delete-slots (merged u l)) (gone u l)

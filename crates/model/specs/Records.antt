@@ -1,4 +1,4 @@
--- Document 01, "The two tables": records, levels and the state of a store.
+-- Document 01, "The two tables": records, levels and the state of a store. A key is a docket, 0 to 65,535; a value is a tally.
 -- S is a tag that every record carries, later its slot; A is the type of a tally.
 use mathlib.Core.Bool.{Bool, true, false}
 use mathlib.Core.List.{List, []}
@@ -46,9 +46,11 @@ module _ {A : Type 0} where
   is-put tombstone = false
 
 module _ {S A : Type 0} where
+  -- A level of no record: its whole row is zero.
   abbrev pub empty : Level S A
   empty = record { points = []; ranges = []; owed = 0 }
 
+  -- Level i; level 0 is the buffer.
   abbrev pub level : ℕ → State S A → Level S A
   level i s = getD (s .levels) i empty
 

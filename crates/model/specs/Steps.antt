@@ -52,6 +52,7 @@ module _ {S A : Type 0} where
       let l = level (suc i) s in
       stored s (release (freed deepest u l) (s .free)) (set (set (s .levels) i empty) (suc i) (joined deepest u l))
 
+  -- The merge, counted among "those whose upper level had a record".
   unfoldable pub merge-level : ℕ → Work S A → Work S A
   merge-level i w = record {
     state = merge-state i (w .state);
@@ -71,6 +72,7 @@ module _ {S A : Type 0} where
   enter-at t w s [] = s
   enter-at t w s (x ∷ free) = stored s free (set (s .levels) 0 (merged (single x t w) (level 0 s)))
 
+  -- What the entry makes go is free before the entry takes a slot.
   unfoldable pub enter : ℕ → Write A → State S A → State S A
   enter t w s = enter-at t w s (release (displaced t w s) (s .free))
 
@@ -79,15 +81,18 @@ module _ {S A : Type 0} where
   overwrite k a t p =
       cond (eqb (p .key) k) (record { slot = p .slot; key = p .key; entry = value a; stamp = t }) p
 
+  -- Level i with other points.
   unfoldable pub set-points : ℕ → List (Point S A) → State S A → List S → State S A
   set-points i ps s free =
       stored s free (set (s .levels) i (record { points = ps; ranges = level i s .ranges; owed = level i s .owed }))
 
+  -- The points that a delete covers leave level i, and their slots are free.
   unfoldable pub wipe : Level (Unit {0}) A → ℕ → State S A → State S A
   wipe u i s =
       set-points i (reject (point-goes u) (level i s .points)) s
       (release (point-slots (select (point-goes u) (level i s .points))) (s .free))
 
+  -- "If not, it acts on level L".
   unfoldable pub act-deepest : ℕ → Write A → State S A → State S A
   act-deepest t (put k a) s =
       let i = s .settings .deepest in
@@ -99,13 +104,15 @@ module _ {S A : Type 0} where
   unfoldable pub crowded : ℕ → Write A → State S A → Bool
   crowded t w s = none (s .free) && none (displaced t w s)
 
+  -- The state once that merging is done, if it is.
   unfoldable pub make-room : ℕ → Write A → State S A → Work S A
   make-room t w s = cond (crowded t w s) (merge-all s) (begin s)
 
-  -- "If a slot is now free, the write goes on as usual. If not, it acts on level L".
+  -- No slot is free, even after that merging.
   unfoldable pub full : ℕ → Write A → State S A → Bool
   full t w s = crowded t w s && none (merge-all s .state .free)
 
+  -- "If a slot is now free, the write goes on as usual. If not, it acts on level L".
   unfoldable pub write : ℕ → Write A → State S A → Work S A
   write t w s =
       let r = make-room t w s in
@@ -127,9 +134,11 @@ module _ {S A : Type 0} where
       ltb (capacity settings i) (held l)
       || (not (eqb (l .owed) 0) && leb (limit settings i) (t - l .owed))
 
+  -- The buffer's part of the pass.
   unfoldable pub pass-buffer : Work S A → Work S A
   pass-buffer w = cond (buffer-due (w .state)) (merge-level 0 w) w
 
+  -- The part of level i, at clock t.
   unfoldable pub pass-level : ℕ → ℕ → Work S A → Work S A
   pass-level t i w = cond (due (w .state .settings) t i (level i (w .state))) (merge-level i w) w
 

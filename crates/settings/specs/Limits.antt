@@ -4,10 +4,11 @@ use Prim.Native.Nat.{ℕ, _-_, _*_, _/_, _^_}
 use lib.Dec.{leb}
 use Rattle.settings.specs.declared.Settings.{Settings}
 
+-- A number from low to high, both included.
 abbrev pub within : ℕ → ℕ → ℕ → Bool
 within low x high = leb low x && leb x high
 
--- L is 2 to 6, T is 2 to 10, B is 1 to 64, D is 1 to 4,294,967,295.
+-- "L, the deepest level: 2 to 6", "T, the size ratio: 2 to 10", "B, the buffer's size: 1 to 64 records", "D, the term: 1 to 4,294,967,295 ticks".
 unfoldable pub allowed : Settings → Bool
 allowed s =
     within 2 (s .deepest) 6

@@ -1,0 +1,127 @@
+-- What an accepted making left, and what any list of timed calls makes of it: the words of the model's states.
+use mathlib.Core.Path.{_≡_, refl, sym, ap, subst, _∙_}
+use mathlib.Core.Bool.{Bool, true, false, cond}
+use mathlib.Core.List.{List, map}
+use mathlib.Core.Logic.{_↔_}
+use native.Mathlib.Omega.{arith}
+use borrow.Author.Tests.{le-ltb}
+use Prim.Native.Nat.{ℕ, _<_, _≤_}
+use lib.ListN.{length}
+use Rattle.settings.specs.declared.Settings.{Settings}
+use Rattle.settings.specs.Limits.{allowed}
+use Rattle.settings.proofs.Allowed.{allowed-bounds}
+use Rattle.model.specs.Records.{State, fresh, slotless}
+use Rattle.model.specs.Steps.{put, merge-all}
+use Rattle.model.specs.Calls.{Call, Answer, written, bad-clock, out-of-slots, run, answers}
+use Rattle.model.specs.Lookup.{scan}
+use Rattle.model.specs.Live as live
+use Rattle.model.specs.PlainMap.{get, map-run, map-refusals, no-rows}
+use Rattle.model.specs.Erasure.{retally, Erased}
+use Rattle.model.proofs.Demands as model
+use Rattle.model.proofs.Numbers.{run-settings}
+use Rattle.tables.specs.Words.{settings-of, clock-of, slots-of}
+use Rattle.tables.specs.Sound.{table-refusal}
+use Rattle.tables.specs.Placed.{row-words, level-words, read-state}
+use Rattle.tables.proofs.Back.{written-reads}
+use Rattle.tables.proofs.FormedSound.{words-sound}
+use Rattle.tables.proofs.FormedSteps.{merge-all-formed, run-formed}
+use Rattle.tables.specs.Formed.{Formed}
+use Rattle.make.specs.Make.{upto}
+use Rattle.make.proofs.Fresh.{length-upto, fresh-formed, made-entry-words, made-level-words}
+use Rattle.lookup.specs.Lookup.{answered, lookup-tables}
+use Rattle.lookup.proofs.Refused.{looked-up-words}
+use Rattle.scan.specs.declared.Row.{Row}
+use Rattle.scan.specs.Scan.{filled, scan-tables}
+use Rattle.scan.proofs.Words.{scanned-words}
+use Rattle.calls.specs.Calls.{Tables, words, call-tables, made-tables, tables-after, answers-tables, merged-tables}
+use Rattle.calls.specs.Full.{SlotsLive}
+use Rattle.calls.proofs.Runs.{words-slots, run-words, answers-words}
+use Rattle.calls.proofs.Refusals.{refused-exactly}
+use Rattle.calls.proofs.Live.{live-words}
+
+seven : (b : Bool) → _≡_ {A = ℕ} (cond b 7 0) 7 → b ≡ true
+seven true q = refl
+seven false q = absurd (omega arith)
+
+module _ (n : ℕ) (s : Settings) (low : 1 ≤ n) (high : n ≤ 65535) (ok : allowed s ≡ true) where
+  made-words : made-tables n s ≡ words n (fresh s (upto n))
+  made-words = rw (made-entry-words n s low high ok, made-level-words n s)
+
+  -- A list of calls on the words is the list of steps on the state that they read as.
+  pub runs : (cs : List (Call ℕ)) → tables-after n s cs ≡ words n (run (fresh s (upto n)) cs)
+  runs cs = rw made-words (run-words n (fresh s (upto n)) cs (fresh-formed n s low high ok))
+
+  formed : (cs : List (Call ℕ)) → Formed n (run (fresh s (upto n)) cs)
+  formed cs = run-formed n (fresh s (upto n)) cs (fresh-formed n s low high ok)
+
+  -- No list leaves tables that are refused.
+  pub always-sound : (cs : List (Call ℕ)) → table-refusal (tables-after n s cs .entries) (tables-after n s cs .levels) ≡ 0
+  always-sound cs = rw (runs cs) (words-sound n (run (fresh s (upto n)) cs) (formed cs))
+
+  pub settings-stay : (cs : List (Call ℕ)) → settings-of (tables-after n s cs .levels) ≡ s
+  unfolding level-words row-words fresh
+  settings-stay cs =
+      let deep : 0 < s .deepest = omega (arith, allowed-bounds s ok .deepest-low) in
+      rw (runs cs) (run-settings (fresh s (upto n)) cs deep)
+
+  -- The state after the list is what its words read as.
+  abbrev after : List (Call ℕ) → State ℕ ℕ
+  after cs = run (fresh s (upto n)) cs
+
+  slots-are : (cs : List (Call ℕ)) → slots-of (tables-after n s cs .entries) ≡ n
+  slots-are cs = rw (runs cs) (words-slots n (after cs) (formed cs))
+
+  reads : (cs : List (Call ℕ)) → read-state (tables-after n s cs .entries) (tables-after n s cs .levels) ≡ after cs
+  reads cs = rw (runs cs) (written-reads n (after cs) (formed cs))
+
+  clock-is : (cs : List (Call ℕ)) → after cs .clock ≡ clock-of (tables-after n s cs .entries)
+  unfolding read-state
+  clock-is cs = ap (λ (p : State ℕ ℕ). p .clock) (sym (reads cs))
+
+  pub full-exactly : (cs : List (Call ℕ)) (t k a : ℕ) → k ≤ 65535 → bad-clock t (clock-of (tables-after n s cs .entries)) ≡ false
+      → (call-tables (tables-after n s cs) (record { clock = t; op = written (put k a) }) .answer .refusal ≡ 7)
+      ↔ SlotsLive n k (merged-tables (tables-after n s cs))
+  full-exactly cs t k a h b =
+      let w : Tables = tables-after n s cs in
+      let c : Call ℕ = record { clock = t; op = written (put k a) } in
+      let m : State ℕ ℕ = merge-all (after cs) .state in
+      let merged : merged-tables w ≡ words n m = rw (slots-are cs, reads cs) in
+      let number : call-tables w c .answer .refusal ≡ cond (out-of-slots t (written (put k a)) (after cs)) 7 0 =
+      refused-exactly w c ∙ rw (always-sound cs, le-ltb 65535 k h, reads cs, clock-is cs, b) in
+      let full = model.full-exactly s ok (upto n) cs t k a in
+      let same = live-words n m (merge-all-formed n (after cs) (formed cs)) k in (
+        λ q. rw merged (same .0 (rw (length-upto n) at (full .0 (seven (out-of-slots t (written (put k a)) (after cs)) (sym number ∙ q))))),
+        λ q. number ∙ ap (λ x. cond x 7 0) (full .1 (subst (λ x. live.SlotsLive x k m) (sym (length-upto n)) (same .1 (rw merged at q)))),
+      )
+
+  pub lookups-as-map : (cs : List (Call ℕ)) (k : ℕ) → k ≤ 65535
+      → lookup-tables (tables-after n s cs .entries) (tables-after n s cs .levels) k ≡ answered (get (map-run n no-rows cs .rows) k)
+  lookups-as-map cs k h =
+      rw (runs cs)
+      (looked-up-words n (run (fresh s (upto n)) cs) k (formed cs) h
+      ∙ ap answered (model.lookups-as-map s ok (upto n) cs k ∙ ap (λ m. get (map-run m no-rows cs .rows) k) (length-upto n)))
+
+  pub scans-as-map : (cs : List (Call ℕ)) (lo hi : ℕ) (rows : List Row) → lo ≤ hi → hi ≤ 65535
+      → scan-tables (tables-after n s cs .entries) (tables-after n s cs .levels) lo hi rows
+      ≡ filled (scan (get (map-run n no-rows cs .rows)) lo hi (length rows)) rows
+  scans-as-map cs lo hi rows order high =
+      rw (runs cs)
+      (scanned-words n (run (fresh s (upto n)) cs) lo hi rows (formed cs) order high
+      ∙ ap (λ found. filled found rows) (model.scans-as-map s ok (upto n) cs lo hi (length rows) ∙ ap (λ m. scan (get (map-run m no-rows cs .rows)) lo hi (length rows)) (length-upto n)))
+
+  answers-of-words : (cs : List (Call ℕ)) → answers-tables (made-tables n s) cs ≡ answers (fresh s (upto n)) cs
+  answers-of-words cs = rw made-words (answers-words n (fresh s (upto n)) cs (fresh-formed n s low high ok))
+
+  pub answers-as-steps : (cs : List (Call ℕ)) → answers-tables (made-tables n s) cs ≡ answers (slotless n s) cs
+  answers-as-steps cs = answers-of-words cs ∙ model.answers-without-slots s ok (upto n) cs ∙ ap (λ x. answers (slotless x s) cs) (length-upto n)
+
+  pub refusals-as-map : (cs : List (Call ℕ)) → map (λ (r : Answer). r .refusal) (answers-tables (made-tables n s) cs) ≡ map-refusals n no-rows cs
+  refusals-as-map cs =
+      ap (map (λ (r : Answer). r .refusal)) (answers-of-words cs)
+      ∙ model.refusals-as-map s ok (upto n) cs ∙ ap (λ x. map-refusals x no-rows cs) (length-upto n)
+
+  pub erased : (cs : List (Call ℕ)) (i j k a v : ℕ) → Erased (slotless n s) cs i j k a
+      → tables-after n s (retally i k v cs) ≡ tables-after n s cs
+  erased cs i j k a v e =
+      runs (retally i k v cs)
+      ∙ ap (words n) (model.erased-leaves-nothing s ok (upto n) cs i j k a v (subst (λ x. Erased (slotless x s) cs i j k a) (sym (length-upto n)) e)) ∙ sym (runs cs)
