@@ -14,18 +14,18 @@ use Rattle.cursors.specs.declared.Lead.{Lead}
 use Rattle.cursors.specs.declared.Pair.{Pair}
 use Rattle.cursors.specs.Cursors.{next-lo, led, leading}
 
--- Of n levels, two: one with the least key to come, which is alone before the bound, and a second; before the limit no other level has a point, and no level above
+-- Of n levels, two: one with the least key to come, which is alone before the bound, and a second; before its reach no other level has a point, and no level above
 -- either of them a range.
 pub record Leads (e points ranges : List ℕ) (n : ℕ) (a : Pair) : Type 0 where
   pub inside : a .level < n
   pub second-inside : a .second < n
   pub apart : a .second ≢ a .level
   pub least : (i : ℕ) → i < n → next-lo e points (a .level) ≤ next-lo e points i
-  pub within : a .bound ≤ a .limit
+  pub within : a .bound ≤ a .reach
   pub before-second : a .bound ≤ next-lo e points (a .second)
-  pub others : (i : ℕ) → i < n → i ≢ a .level → i ≢ a .second → a .limit ≤ next-lo e points i
-  pub above-level : (i : ℕ) → i < a .level → a .limit ≤ next-lo e ranges i
-  pub above-second : (i : ℕ) → i < a .second → a .limit ≤ next-lo e ranges i
+  pub others : (i : ℕ) → i < n → i ≢ a .level → i ≢ a .second → a .reach ≤ next-lo e points i
+  pub above-level : (i : ℕ) → i < a .level → a .reach ≤ next-lo e ranges i
+  pub above-second : (i : ℕ) → i < a .second → a .reach ≤ next-lo e ranges i
 
 -- Of the levels before i: the leading one's key and the least of the others, and where the first of their ranges begins. The second is one of the n levels.
 pub record Led (e points ranges : List ℕ) (n i : ℕ) (m : Lead) : Type 0 where

@@ -67,7 +67,7 @@ led m i p r =
 
 -- The two, and how far the first is alone, and both.
 abbrev pub pair-of : Lead → Pair
-pair-of m = record { level = m .level; second = m .second; bound = min (m .next) (m .bound); limit = m .bound }
+pair-of m = record { level = m .level; second = m .second; bound = min (m .next) (m .bound); reach = m .bound }
 
 -- The level with the least key to come of n levels, and a second one: at first level 0 leads and level 1 is second, then each from level 1 on is held against the two.
 abbrev pub leading : List ℕ → List ℕ → List ℕ → ℕ → Pair

@@ -22,7 +22,7 @@ pub struct Pair {
     pub level: usize,
     pub second: usize,
     pub bound: u32,
-    pub limit: u32,
+    pub reach: u32,
 }
 
 // The two while the levels are gone through: the least key so far and the next, the docket before which the two are alone, and where
@@ -69,21 +69,21 @@ pub fn look(e: &[u32], points: &[usize], ranges: &[usize], levels: usize, docket
     Decided::Deeper
 }
 
-// Passes the points that begin, and the ranges that end, before a docket, in each level.
-pub fn pass(e: &[u32], points: &mut [usize], ranges: &mut [usize], levels: usize, docket: u32)
+// Moves past the points that begin, and the ranges that end, before a docket, in each level.
+pub fn move_to(e: &[u32], points: &mut [usize], ranges: &mut [usize], levels: usize, docket: u32)
     requires { ⌜ Ready (now e) (now points) (now ranges) levels ⌝ }
     ensures { λ _. ⌜ now (points .exit) ≡ change (λ _ h. point-front (now (e .entry)) docket h) levels (now (points .entry)) ⌝ }
     ensures { λ _. ⌜ now (ranges .exit) ≡ change (λ _ h. range-front (now (e .entry)) docket h) levels (now (ranges .entry)) ⌝ }
 {
     let mut i = 0;
     while i < levels {
-        pass_level(e, points, ranges, i, docket);
+        move_level_to(e, points, ranges, i, docket);
         i += 1;
     }
 }
 
 // The same in one level.
-fn pass_level(e: &[u32], points: &mut [usize], ranges: &mut [usize], i: usize, docket: u32)
+fn move_level_to(e: &[u32], points: &mut [usize], ranges: &mut [usize], i: usize, docket: u32)
     requires { ⌜ (i < length (now points)) × (i < length (now ranges)) ⌝ }
     requires { ⌜ Ordered (now e) (getD (now points) i 0) ⌝ }
     requires { ⌜ Ordered (now e) (getD (now ranges) i 0) ⌝ }
@@ -129,7 +129,7 @@ pub fn leaders(e: &[u32], points: &[usize], ranges: &[usize], levels: usize) -> 
         level: m.level,
         second: m.second,
         bound: lesser(m.next, m.bound),
-        limit: m.bound,
+        reach: m.bound,
     }
 }
 

@@ -22,7 +22,7 @@ const BASE: u32 = 65536;
 const PUT: u32 = 1;
 
 // The refusal of a docket that there is none of.
-const OUT_OF_RANGE: u32 = 4;
+const BAD_DOCKET: u32 = 4;
 
 const LAST_DOCKET: u32 = 65535;
 
@@ -55,7 +55,7 @@ pub fn lookup(entries: &[u32], levels: &[u32], docket: u32) -> Answer
         return Answer::Refused(refusal);
     }
     if LAST_DOCKET < docket {
-        return Answer::Refused(OUT_OF_RANGE);
+        return Answer::Refused(BAD_DOCKET);
     }
     match look_up(entries, levels, docket) {
         Found::Absent => Answer::Absent,

@@ -8,7 +8,7 @@ ghost use mathlib.Core.Path.{_≡_};
 ghost use Rattle.scan.specs.Scan.{Opened, row-at, has-row, closed, scan-refusal, scan-tables};
 
 // The refusal of dockets that there are none of.
-const OUT_OF_RANGE: u32 = 4;
+const BAD_DOCKET: u32 = 4;
 
 const LAST_DOCKET: u32 = 65535;
 
@@ -32,7 +32,7 @@ pub struct Scanned {
 pub fn scan(entries: &[u32], levels: &[u32], lo: u32, hi: u32, rows: &mut [Row]) -> Scanned
     ensures { λ r. ⌜ record { answer = r; rows = now (rows .exit) } ≡ scan-tables (now (entries .entry)) (now (levels .entry)) lo hi (now (rows .entry)) ⌝ }
 {
-    let refusal = refusal_of(entries, levels, lo, hi);
+    let refusal = find_refusal(entries, levels, lo, hi);
     let mut m = open(entries, levels, lo, hi, refusal);
     let mut i = 0;
     while goes_on(m, i, rows.len()) {
@@ -44,7 +44,7 @@ pub fn scan(entries: &[u32], levels: &[u32], lo: u32, hi: u32, rows: &mut [Row])
 }
 
 // Why the scan is refused, or 0.
-fn refusal_of(entries: &[u32], levels: &[u32], lo: u32, hi: u32) -> u32
+fn find_refusal(entries: &[u32], levels: &[u32], lo: u32, hi: u32) -> u32
     ensures { λ r. ⌜ r ≡ scan-refusal (now (entries .entry)) (now (levels .entry)) lo hi ⌝ }
 {
     let refusal = table_refusal(entries, levels);
@@ -52,10 +52,10 @@ fn refusal_of(entries: &[u32], levels: &[u32], lo: u32, hi: u32) -> u32
         return refusal;
     }
     if LAST_DOCKET < hi {
-        return OUT_OF_RANGE;
+        return BAD_DOCKET;
     }
     if hi < lo {
-        return OUT_OF_RANGE;
+        return BAD_DOCKET;
     }
     0
 }

@@ -89,8 +89,8 @@ module _ (e : List ℕ) (m : Sweep) (s : Sweeping e m) where
   pub alone-ranges : (i : ℕ) → i < m .level → m .bound ≤ next-lo e (m .ranges) i
   alone-ranges i h = omega (arith, s .within, s .above-level i h)
 
-  -- The second level goes on, alone before the key of the other and the limit.
-  pub swaps : (k b : ℕ) → k ≡ next-lo e (heads m) (m .level) → b ≡ min k (m .limit) → Alike e m (swapped m b)
+  -- The second level goes on, alone before the key of the other and the reach.
+  pub swaps : (k b : ℕ) → k ≡ next-lo e (heads m) (m .level) → b ≡ min k (m .reach) → Alike e m (swapped m b)
   swaps k b is least =
       let same = set-comm (m .points) (m .level) (m .second) (m .slot) (m .waiting) (λ q. s .apart (sym q)) in
       record {
@@ -123,7 +123,7 @@ module _ (e : List ℕ) (m : Sweep) (s : Sweeping e m) where
     bound = a .bound;
     second = a .second;
     waiting = getD (heads m) (a .second) 0;
-    limit = a .limit;
+    reach = a .reach;
     hi = m .hi;
     going = m .going;
     live = m .live;

@@ -18,35 +18,35 @@ heads m = set (set (m .points) (m .second) (m .waiting)) (m .level) (m .slot)
 abbrev pub to-come : List ℕ → Sweep → List (Level ℕ ℕ)
 to-come e m = coming e (heads m) (m .ranges) (m .levels)
 
--- The cursors can be followed; before the bound the second level has no point, and before the limit no other level a point, and no level above either of the two a
+-- The cursors can be followed; before the bound the second level has no point, and before its reach no other level a point, and no level above either of the two a
 -- range.
 pub record Sweeping (e : List ℕ) (m : Sweep) : Type 0 where
   pub ready : Ready e (heads m) (m .ranges) (m .levels)
   pub inside : m .level < m .levels
   pub second-inside : m .second < m .levels
   pub apart : m .second ≢ m .level
-  pub within : m .bound ≤ m .limit
+  pub within : m .bound ≤ m .reach
   pub before-second : m .bound ≤ next-lo e (heads m) (m .second)
-  pub others : (i : ℕ) → i < m .levels → i ≢ m .level → i ≢ m .second → m .limit ≤ next-lo e (heads m) i
-  pub above-level : (i : ℕ) → i < m .level → m .limit ≤ next-lo e (m .ranges) i
-  pub above-second : (i : ℕ) → i < m .second → m .limit ≤ next-lo e (m .ranges) i
+  pub others : (i : ℕ) → i < m .levels → i ≢ m .level → i ≢ m .second → m .reach ≤ next-lo e (heads m) i
+  pub above-level : (i : ℕ) → i < m .level → m .reach ≤ next-lo e (m .ranges) i
+  pub above-second : (i : ℕ) → i < m .second → m .reach ≤ next-lo e (m .ranges) i
   pub last : m .hi ≤ 65535
 
 -- The level goes on from another slot.
 abbrev pub moved : Sweep → ℕ → Sweep
-moved m slot = record { points = m .points; ranges = m .ranges; levels = m .levels; level = m .level; slot = slot; bound = m .bound; second = m .second; waiting = m .waiting; limit = m .limit; hi = m .hi; going = m .going; live = m .live; key = m .key; value = m .value; stamp = m .stamp }
+moved m slot = record { points = m .points; ranges = m .ranges; levels = m .levels; level = m .level; slot = slot; bound = m .bound; second = m .second; waiting = m .waiting; reach = m .reach; hi = m .hi; going = m .going; live = m .live; key = m .key; value = m .value; stamp = m .stamp }
 
 -- The second level goes on, alone before a bound, and the other waits.
 abbrev pub swapped : Sweep → ℕ → Sweep
-swapped m bound = record { points = m .points; ranges = m .ranges; levels = m .levels; level = m .second; slot = m .waiting; bound = bound; second = m .level; waiting = m .slot; limit = m .limit; hi = m .hi; going = m .going; live = m .live; key = m .key; value = m .value; stamp = m .stamp }
+swapped m bound = record { points = m .points; ranges = m .ranges; levels = m .levels; level = m .second; slot = m .waiting; bound = bound; second = m .level; waiting = m .slot; reach = m .reach; hi = m .hi; going = m .going; live = m .live; key = m .key; value = m .value; stamp = m .stamp }
 
 -- Other cursors; no level is alone.
 abbrev pub regrouped : Sweep → List ℕ → List ℕ → Sweep
-regrouped m points ranges = record { points = points; ranges = ranges; levels = m .levels; level = m .level; slot = getD points (m .level) 0; bound = 0; second = m .second; waiting = getD points (m .second) 0; limit = 0; hi = m .hi; going = m .going; live = m .live; key = m .key; value = m .value; stamp = m .stamp }
+regrouped m points ranges = record { points = points; ranges = ranges; levels = m .levels; level = m .level; slot = getD points (m .level) 0; bound = 0; second = m .second; waiting = getD points (m .second) 0; reach = 0; hi = m .hi; going = m .going; live = m .live; key = m .key; value = m .value; stamp = m .stamp }
 
 -- The same cursors; the sweep is on its way, or has come to a live docket or to none.
 abbrev pub told : Sweep → Bool → Bool → ℕ → ℕ → ℕ → Sweep
-told m going alive key value stamp = record { points = m .points; ranges = m .ranges; levels = m .levels; level = m .level; slot = m .slot; bound = m .bound; second = m .second; waiting = m .waiting; limit = m .limit; hi = m .hi; going = going; live = alive; key = key; value = value; stamp = stamp }
+told m going alive key value stamp = record { points = m .points; ranges = m .ranges; levels = m .levels; level = m .level; slot = m .slot; bound = m .bound; second = m .second; waiting = m .waiting; reach = m .reach; hi = m .hi; going = going; live = alive; key = key; value = value; stamp = stamp }
 
 -- The slot's key is the least to come, and the slot stands in its place among the cursors.
 pub record Foremost (e : List ℕ) (m : Sweep) : Type 0 where

@@ -5,8 +5,8 @@ use cursors::key_at;
 use cursors::leaders;
 use cursors::lesser;
 use cursors::look;
+use cursors::move_to;
 use cursors::open;
-use cursors::pass;
 use lookup::Decided;
 use rows::kind_of;
 use rows::stamp_of;
@@ -41,7 +41,7 @@ pub struct Sweep {
     pub stamp: u32,
     pub hi: u32,
     pub bound: u32,
-    pub limit: u32,
+    pub reach: u32,
     pub waiting: usize,
     pub second: usize,
 }
@@ -58,7 +58,7 @@ pub fn begin(e: &[u32], l: &[u32], lo: u32, hi: u32) -> Sweep
     let mut ranges = [0usize; 7];
     let levels = l[0] as usize + 1;
     open(l, &mut points, &mut ranges);
-    pass(e, &mut points, &mut ranges, levels, lo);
+    move_to(e, &mut points, &mut ranges, levels, lo);
     let slot = points[0];
     let waiting = points[1];
     let m = Sweep {
@@ -70,7 +70,7 @@ pub fn begin(e: &[u32], l: &[u32], lo: u32, hi: u32) -> Sweep
         bound: 0,
         second: 1,
         waiting: waiting,
-        limit: 0,
+        reach: 0,
         hi: hi,
         going: true,
         live: false,
@@ -94,7 +94,7 @@ pub fn ended() -> Sweep
         bound: 0,
         second: 1,
         waiting: 0,
-        limit: 0,
+        reach: 0,
         hi: 0,
         going: false,
         live: false,
@@ -129,7 +129,7 @@ fn step(e: &[u32], m: Sweep) -> Sweep
         return go_alone(e, m, key);
     }
     let next = key_at(e, m.waiting);
-    let bound = lesser(key, m.limit);
+    let bound = lesser(key, m.reach);
     if next < bound {
         return go_alone(e, swap(m, bound), next);
     }
@@ -171,7 +171,7 @@ fn change_level(e: &[u32], m: Sweep) -> Sweep
     c.bound = a.bound;
     c.second = other;
     c.waiting = points[other];
-    c.limit = a.limit;
+    c.reach = a.reach;
     let key = key_at(e, c.slot);
     if key < c.bound {
         return go_alone(e, c, key);
@@ -217,7 +217,7 @@ fn go_together(e: &[u32], m: Sweep, key: u32) -> Sweep
     let mut points = m.points;
     let mut ranges = m.ranges;
     let decided = look(e, &points, &ranges, m.levels, key);
-    pass(e, &mut points, &mut ranges, m.levels, key + 1);
+    move_to(e, &mut points, &mut ranges, m.levels, key + 1);
     let r = regroup(m, points, ranges);
     match decided {
         Decided::Value(value, stamp) => found(r, key, value, stamp),
@@ -240,7 +240,7 @@ fn regroup(m: Sweep, points: [usize; 7], ranges: [usize; 7]) -> Sweep
     r.slot = points[level];
     r.bound = 0;
     r.waiting = points[second];
-    r.limit = 0;
+    r.reach = 0;
     r
 }
 

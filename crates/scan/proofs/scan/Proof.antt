@@ -49,7 +49,7 @@ use Rattle.scan.specs.declared.Scanned.{Scanned}
 use Rattle.scan.specs.Scan.{Outcome, written, scan-refusal, has-row}
 use Rattle.scan.proofs.Filling.{so-far}
 use Rattle.scan.proofs.Reached.{live-rows, Reached, begun, kept-length, has-room, goes-sweeping, stored, turned, ended}
-use Rattle.scan.proofs.Calls.{table-at, Entries, Tokens, Both, RefusalOf, Open, GoesOn, RowOf, Advance, Close, Callees, calls-refusal-of, calls-open, calls-goes-on, calls-row-of, calls-advance, calls-close}
+use Rattle.scan.proofs.Calls.{table-at, Entries, Tokens, Both, FindRefusal, Open, GoesOn, RowOf, Advance, Close, Callees, calls-find-refusal, calls-open, calls-goes-on, calls-row-of, calls-advance, calls-close}
 use Rattle.scan.proofs.Ends as ends
 use Rattle.scan.proofs.Ends.{stayed}
 use Rattle.scan.proofs.Entry.{after, word, number, slice₁, slice₂, slice₅, Locals, Dies, Stored, enters, leaves}
@@ -59,9 +59,9 @@ use Rattle.sweep.proofs.Sweep as S
 use Rattle.sweep.proofs.Sweep.Laws as S′
 use Rattle.scan.proofs.Scanned as C
 use Rattle.scan.proofs.Scanned.Laws as C′
-use Rattle.scan.proofs.refusal_of.Symbol as refusal-of-def
-use Rattle.scan.proofs.refusal_of.Symbol.{name as #scan·refusal-of}
-use Rattle.scan.proofs.refusal_of.Met as refusal-of-thm
+use Rattle.scan.proofs.find_refusal.Symbol as find-refusal-def
+use Rattle.scan.proofs.find_refusal.Symbol.{name as #scan·find-refusal}
+use Rattle.scan.proofs.find_refusal.Met as find-refusal-thm
 use Rattle.scan.proofs.open.Symbol as open-def
 use Rattle.scan.proofs.open.Symbol.{name as #scan·open}
 use Rattle.scan.proofs.open.Met as open-thm
@@ -232,7 +232,7 @@ module _ {M : Type 1} (𝓤 : URA M) (H : Heap 𝓤) (A : Atoms 𝓤) (W : Given
     starts : lo < 2 ^ 32 → hi < 2 ^ 32 → ent 𝓤 (⋆ 𝓤 H A Start) (Wp 𝓤 H (𝓣 .C) (𝓣 .Λ) En code.Mir.t-1 (atReturn 𝓤 H En Post))
     starts low high =
         qed W Start ∵ exec ! (𝓣 .C) (𝓣 .Λ) En code.Mir.t-1 (atRet En Post) $
-        calls-refusal-of ! known e l lo hi low high
+        calls-find-refusal ! known e l lo hi low high
         (and-then ! (load ! (from ! (stop !)) (look ! 9 refl)) (and-then ! (load ! (from ! (stop !)) (look ! 11 refl)) (and-then ! (load ! (from ! (stop !)) (look ! 12 refl)) (and-then ! (load ! (from ! (stop !)) (look ! 13 refl)) (no-more !))))) (λ w r is-r checked.
         land ! (from ! (stop !)) (init ! 14 refl (uint-lawful 𝓤 H A W w32 .typed r _ is-r .0)) $
         calls-open ! known e l lo hi r w low high is-r checked
@@ -287,7 +287,7 @@ scan-spec 𝓤 H 𝓜 𝓖 𝓡 =
     entered 𝓤 H (tripleOf 𝓤 H (𝓖 .A) f.signature (f.spec 𝓤 H (𝓖 .A) (𝓜 .mem) (𝓡 .run)))
     (tables 𝓤 H 𝓜 𝓡 code.env .C) (tables 𝓤 H 𝓜 𝓡 code.env .Λ) #scan·scan code.function (code.unfolded 𝓤 H 𝓜 𝓡)
     (scan-meets 𝓤 H (𝓖 .A) (givenOf 𝓤 H 𝓜 𝓖) (𝓜 .mem) (𝓡 .run) (tablesOf 𝓤 H 𝓜 (tables 𝓤 H 𝓜 𝓡 code.env)) (record {
-      refusal-of = cited 𝓤 H (RefusalOf 𝓤 H (𝓖 .A) (𝓜 .mem) (𝓡 .run)) 𝓜 𝓡 code.env #scan·refusal-of refusal-of-def.routine code.calls-scan·refusal-of (refusal-of-thm.met 𝓤 H 𝓜 𝓖 𝓡);
+      find-refusal = cited 𝓤 H (FindRefusal 𝓤 H (𝓖 .A) (𝓜 .mem) (𝓡 .run)) 𝓜 𝓡 code.env #scan·find-refusal find-refusal-def.routine code.calls-scan·find-refusal (find-refusal-thm.met 𝓤 H 𝓜 𝓖 𝓡);
       open-first = cited 𝓤 H (Open 𝓤 H (𝓖 .A) (𝓜 .mem) (𝓡 .run)) 𝓜 𝓡 code.env #scan·open open-def.routine code.calls-scan·open (open-thm.met 𝓤 H 𝓜 𝓖 𝓡);
       goes-on = cited 𝓤 H (GoesOn 𝓤 H (𝓖 .A) (𝓜 .mem) (𝓡 .run)) 𝓜 𝓡 code.env #scan·goes-on goes-on-def.routine code.calls-scan·goes-on (goes-on-thm.met 𝓤 H 𝓜 𝓖 𝓡);
       row-of = cited 𝓤 H (RowOf 𝓤 H (𝓖 .A) (𝓜 .mem) (𝓡 .run)) 𝓜 𝓡 code.env #scan·row-of row-of-def.routine code.calls-scan·row-of (row-of-thm.met 𝓤 H 𝓜 𝓖 𝓡);

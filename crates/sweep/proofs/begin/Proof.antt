@@ -24,14 +24,14 @@ slice-aggregate-open-2 c = search needs
 open-requires : tie.Need-open-requires
 open-requires c κs = search needs
 
-slice-aggregate-pass : tie.Need-slice-aggregate-pass
-slice-aggregate-pass c = search needs
+slice-aggregate-move-to : tie.Need-slice-aggregate-move-to
+slice-aggregate-move-to c = search needs
 
-slice-aggregate-pass-2 : tie.Need-slice-aggregate-pass-2
-slice-aggregate-pass-2 c = search needs
+slice-aggregate-move-to-2 : tie.Need-slice-aggregate-move-to-2
+slice-aggregate-move-to-2 c = search needs
 
-pass-requires : tie.Need-pass-requires
-pass-requires c κs =
+move-to-requires : tie.Need-move-to-requires
+move-to-requires c κs =
     let o = c .before .before .before .before in
     let p = o .before .before .before .before .before .before .pre in
     begun-ready (p .0) _ _ refl refl (o .«open» .ensures .0) (o .«open» .ensures .1)
@@ -47,7 +47,7 @@ advance-requires c κs =
     let a = c .before .before in
     let o = a .before .before .before .before .before in
     let p = o .before .before .before .before .before .before .pre in
-    begun-sweeping (p .0) _ _ refl refl (o .«open» .ensures .0) (o .«open» .ensures .1) (omega (arith, p .1 .0, p .1 .1)) (a .pass .ensures .0) (a .pass .ensures .1) _ (p .1 .1)
+    begun-sweeping (p .0) _ _ refl refl (o .«open» .ensures .0) (o .«open» .ensures .1) (omega (arith, p .1 .0, p .1 .1)) (a .move-to .ensures .0) (a .move-to .ensures .1) _ (p .1 .1)
 
 returns : tie.Need-returns
 returns c =
@@ -57,7 +57,7 @@ returns c =
     let p = k .before .pre in (
       c .advance .ensures .0,
       c .advance .ensures .1
-          ∙ begun-rest (p .0) _ _ refl refl (o .«open» .ensures .0) (o .«open» .ensures .1) (omega (arith, p .1 .0, p .1 .1)) (a .pass .ensures .0) (a .pass .ensures .1)
+          ∙ begun-rest (p .0) _ _ refl refl (o .«open» .ensures .0) (o .«open» .ensures .1) (omega (arith, p .1 .0, p .1 .1)) (a .move-to .ensures .0) (a .move-to .ensures .1)
           (λ i. k .shared-slice-known .given i .fits) _ (p .1 .0),
     )
 
@@ -71,9 +71,9 @@ begin-spec =
     slice-aggregate-open
     slice-aggregate-open-2
     open-requires
-    slice-aggregate-pass
-    slice-aggregate-pass-2
-    pass-requires
+    slice-aggregate-move-to
+    slice-aggregate-move-to-2
+    move-to-requires
     array-read-slot
     array-read-waiting
     advance-requires

@@ -1,4 +1,4 @@
--- `sweep::go_together` meets its contract: the look says what is to come of the least docket, and the pass passes it in all levels.
+-- `sweep::go_together` meets its contract: the look says what is to come of the least docket, and all levels move past it.
 use mathlib.Core.Path.{refl}
 use borrow.Author.Needs.{needs}
 use Rattle.sweep.proofs.Steps.{stepped-none}
@@ -27,17 +27,17 @@ look-requires c κs =
     let p = c .before .before .before .before .before .before .before .pre in
     rw (p .1 .1 .1 .settled) (p .0 .ready)
 
-slice-aggregate-pass : tie.Need-slice-aggregate-pass
-slice-aggregate-pass c = search needs
+slice-aggregate-move-to : tie.Need-slice-aggregate-move-to
+slice-aggregate-move-to c = search needs
 
-slice-aggregate-pass-2 : tie.Need-slice-aggregate-pass-2
-slice-aggregate-pass-2 c = search needs
+slice-aggregate-move-to-2 : tie.Need-slice-aggregate-move-to-2
+slice-aggregate-move-to-2 c = search needs
 
-add-pass : tie.Need-add-pass
-add-pass c = search needs
+add-move-to : tie.Need-add-move-to
+add-move-to c = search needs
 
-pass-requires : tie.Need-pass-requires
-pass-requires c κs =
+move-to-requires : tie.Need-move-to-requires
+move-to-requires c κs =
     let b = c .before .before .before .before .before .before .before in
     let p = b .before .before .before .pre in
     rw (p .1 .1 .1 .settled) (p .0 .ready)
@@ -65,7 +65,7 @@ returns-2 c =
     let b = a .before .before .before .before .before in
     let p = b .before .before .before .pre in
     rw (c .found .ensures, g .regroup .ensures)
-    (together-found (p .0) (p .1 .1 .0) (p .1 .1 .1) (together-passed (p .0) (p .1 .1 .0) (p .1 .1 .1) (b .if1 .left) (d .pass .ensures .0) (d .pass .ensures .1)) (λ i. b .before .before .shared-slice-known .given i .fits)
+    (together-found (p .0) (p .1 .1 .0) (p .1 .1 .1) (together-passed (p .0) (p .1 .1 .0) (p .1 .1 .1) (b .if1 .left) (d .move-to .ensures .0) (d .move-to .ensures .1)) (λ i. b .before .before .shared-slice-known .given i .fits)
     (b .if1 .left) _ _ (a .look .ensures) (c .before .before .decided .given .1) _ _ refl)
 
 returns-3 : tie.Need-returns-3
@@ -76,7 +76,7 @@ returns-3 c =
     let b = a .before .before .before .before .before in
     let p = b .before .before .before .pre in
     rw (g .regroup .ensures)
-    (together-on (p .0) (p .1 .1 .0) (p .1 .1 .1) (together-passed (p .0) (p .1 .1 .0) (p .1 .1 .1) (b .if1 .left) (d .pass .ensures .0) (d .pass .ensures .1)) (λ i. b .before .before .shared-slice-known .given i .fits)
+    (together-on (p .0) (p .1 .1 .0) (p .1 .1 .1) (together-passed (p .0) (p .1 .1 .0) (p .1 .1 .1) (b .if1 .left) (d .move-to .ensures .0) (d .move-to .ensures .1)) (λ i. b .before .before .shared-slice-known .given i .fits)
     (b .if1 .left) _ _ (a .look .ensures) (c .enum-told .given .1) refl (p .1 .0))
 
 returns-4 : tie.Need-returns-4
@@ -87,7 +87,7 @@ returns-4 c =
     let b = a .before .before .before .before .before in
     let p = b .before .before .before .pre in
     rw (g .regroup .ensures)
-    (together-on (p .0) (p .1 .1 .0) (p .1 .1 .1) (together-passed (p .0) (p .1 .1 .0) (p .1 .1 .1) (b .if1 .left) (d .pass .ensures .0) (d .pass .ensures .1)) (λ i. b .before .before .shared-slice-known .given i .fits)
+    (together-on (p .0) (p .1 .1 .0) (p .1 .1 .1) (together-passed (p .0) (p .1 .1 .0) (p .1 .1 .1) (b .if1 .left) (d .move-to .ensures .0) (d .move-to .ensures .1)) (λ i. b .before .before .shared-slice-known .given i .fits)
     (b .if1 .left) _ _ (a .look .ensures) (c .enum-told2 .given .1) refl (p .1 .0))
 
 pub go-together-spec : {M : Type 1} → statement M
@@ -99,10 +99,10 @@ go-together-spec =
     slice-aggregate-look
     slice-aggregate-look-2
     look-requires
-    slice-aggregate-pass
-    slice-aggregate-pass-2
-    add-pass
-    pass-requires
+    slice-aggregate-move-to
+    slice-aggregate-move-to-2
+    add-move-to
+    move-to-requires
     regroup-requires
     enum-known-decided
     found-requires

@@ -1,7 +1,7 @@
--- `cursors::pass_level` meets its contract: each cursor is set to what the walk of its chain gives.
+-- `cursors::move_level_to` meets its contract: each cursor is set to what the walk of its chain gives.
 use borrow.Author.Needs.{needs}
-use Rattle.cursors.proofs.pass_level.Statement.{statement}
-use Rattle.cursors.proofs.pass_level.Tie as tie
+use Rattle.cursors.proofs.move_level_to.Statement.{statement}
+use Rattle.cursors.proofs.move_level_to.Tie as tie
 
 mul-seek : tie.Need-mul-seek
 mul-seek c = search needs
@@ -42,8 +42,8 @@ same-length-2 c = search needs
 returns : tie.Need-returns
 returns c = (rw (c .before .before .seek .ensures), rw (c .skip .ensures))
 
-pub pass-level-spec : {M : Type 1} → statement M
-pass-level-spec =
+pub move-level-to-spec : {M : Type 1} → statement M
+move-level-to-spec =
     tie.close
     (tie.spec
     mul-seek

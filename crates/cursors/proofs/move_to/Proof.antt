@@ -1,12 +1,12 @@
--- `cursors::pass` meets its contract. The loop's invariant: the cursors of the levels before i are passed, and the others are as they were.
+-- `cursors::move_to` meets its contract. The loop's invariant: the cursors of the levels before i are passed, and the others are as they were.
 use mathlib.Core.Path.{_≡_, refl}
 use Prim.Native.Nat.{_-_, _≤_}
 use native.Mathlib.Omega.{arith}
 use lib.ListN.{getD}
 use Rattle.cursors.specs.Cursors.{point-front, range-front}
 use Rattle.cursors.proofs.Filling.{Filled, fill-none, fill-on, filled-change}
-use Rattle.cursors.proofs.pass.Statement.{statement}
-use Rattle.cursors.proofs.pass.Tie as tie
+use Rattle.cursors.proofs.move_to.Statement.{statement}
+use Rattle.cursors.proofs.move_to.Tie as tie
 
 abbrev Inv-loop : tie.InvT-loop
 Inv-loop e points₀ ranges₀ levels docket i₀ points ranges i =
@@ -19,8 +19,8 @@ abbrev μ-loop : tie.MeasureT-loop
 loop-holds : tie.Need-loop-holds Inv-loop μ-loop
 loop-holds c = (omega arith, fill-none _ _ _ refl, fill-none _ _ _ refl)
 
-pass-level-requires : tie.Need-pass-level-requires Inv-loop μ-loop
-pass-level-requires c κs =
+move-level-to-requires : tie.Need-move-level-to-requires Inv-loop μ-loop
+move-level-to-requires c κs =
     let ready = c .before .before .before .before .before .before .before .pre in
     let below = c .before .before .loop-test .taken in
     let m = c .before .before .before .loop in (
@@ -44,9 +44,9 @@ loop-again c =
     let m = c .before .before .before .before .before .before .before .before .loop in (
       omega arith,
       fill-on (λ _ h. point-front (a .e .now) (a .docket) h) (m .i) _ _ (m .points) _ (omega arith) (omega (arith, ready .point-room))
-          (c .before .before .before .before .pass-level .ensures .0) (m .inv .1),
+          (c .before .before .before .before .move-level-to .ensures .0) (m .inv .1),
       fill-on (λ _ h. range-front (a .e .now) (a .docket) h) (m .i) _ _ (m .ranges) _ (omega arith) (omega (arith, ready .range-room))
-          (c .before .before .before .before .pass-level .ensures .1) (m .inv .2),
+          (c .before .before .before .before .move-level-to .ensures .1) (m .inv .2),
     )
 
 same-length : tie.Need-same-length Inv-loop μ-loop
@@ -65,14 +65,14 @@ returns c =
       filled-change (λ _ h. range-front (a .e .now) (a .docket) h) (a .levels) (a .ranges .now) (m .ranges) (ready .range-room) (rw all at (m .inv .2)),
     )
 
-pub pass-spec : {M : Type 1} → statement M
-pass-spec =
+pub move-to-spec : {M : Type 1} → statement M
+move-to-spec =
     tie.close
     (tie.spec
     Inv-loop
     μ-loop
     loop-holds
-    pass-level-requires
+    move-level-to-requires
     add-i
     loop-less
     loop-again
