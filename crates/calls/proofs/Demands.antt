@@ -80,6 +80,11 @@ module _ (n : ℕ) (s : Settings) (low : 1 ≤ n) (high : n ≤ 65535) (ok : all
       → (call-tables (tables-after n s cs) (record { clock = t; op = written (put k a) }) .answer .refusal ≡ 7) ↔ SlotsLive n k (merged-tables (tables-after n s cs))
   full-exactly = made.full-exactly n s low high ok
 
+  -- A delete of all dockets is accepted at every clock that is not refused.
+  pub widest-accepted : (cs : List (Call ℕ)) (t : ℕ) → bad-clock t (clock-of (tables-after n s cs .entries)) ≡ false
+      → call-tables (tables-after n s cs) (record { clock = t; op = written (delete-range 0 65535) }) .answer .refusal ≡ 0
+  widest-accepted = made.widest-accepted n s low high ok
+
   -- DEMAND 2: lookups answer as the plain map after the same list.
   pub lookups-as-map : (cs : List (Call ℕ)) (k : ℕ) → k ≤ 65535
       → lookup-tables (tables-after n s cs .entries) (tables-after n s cs .levels) k ≡ answered (get (map-run n no-rows cs .rows) k)

@@ -11,7 +11,7 @@ use Rattle.settings.specs.declared.Settings.{Settings}
 use Rattle.settings.specs.Limits.{allowed}
 use Rattle.settings.proofs.Allowed.{allowed-bounds}
 use Rattle.model.specs.Records.{State, fresh, slotless}
-use Rattle.model.specs.Steps.{put, merge-all}
+use Rattle.model.specs.Steps.{put, delete-range, merge-all, no-slot}
 use Rattle.model.specs.Calls.{Call, Answer, written, bad-clock, out-of-slots, run, answers}
 use Rattle.model.specs.Lookup.{scan}
 use Rattle.model.specs.Live as live
@@ -93,6 +93,13 @@ module _ (n : ℕ) (s : Settings) (low : 1 ≤ n) (high : n ≤ 65535) (ok : all
         λ q. rw merged (same .0 (rw (length-upto n) at (full .0 (seven (out-of-slots t (written (put k a)) (after cs)) (sym number ∙ q))))),
         λ q. number ∙ ap (λ x. cond x 7 0) (full .1 (subst (λ x. live.SlotsLive x k m) (sym (length-upto n)) (same .1 (rw merged at q)))),
       )
+
+  -- Nothing but the clock can turn away a delete of all dockets.
+  pub widest-accepted : (cs : List (Call ℕ)) (t : ℕ) → bad-clock t (clock-of (tables-after n s cs .entries)) ≡ false
+      → call-tables (tables-after n s cs) (record { clock = t; op = written (delete-range 0 65535) }) .answer .refusal ≡ 0
+  unfolding no-slot
+  widest-accepted cs t b =
+      refused-exactly (tables-after n s cs) (record { clock = t; op = written (delete-range 0 65535) }) ∙ rw (always-sound cs, reads cs, clock-is cs, b)
 
   pub lookups-as-map : (cs : List (Call ℕ)) (k : ℕ) → k ≤ 65535
       → lookup-tables (tables-after n s cs .entries) (tables-after n s cs .levels) k ≡ answered (get (map-run n no-rows cs .rows) k)
