@@ -11,7 +11,7 @@ use Rattle.model.specs.Calls as model
 use Rattle.tables.specs.Words.{slots-of}
 use Rattle.tables.specs.Sound.{table-refusal}
 use Rattle.tables.specs.Placed.{read-state, entry-words, level-words}
-use Rattle.make.specs.Make.{made-entries, made-levels}
+use Rattle.fresh.specs.Fresh.{made-entries, made-levels}
 
 -- Every word of both tables.
 pub record Tables : Type 0 where

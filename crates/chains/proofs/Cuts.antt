@@ -11,10 +11,10 @@ use Rattle.tables.proofs.Rows.{InTable}
 use Rattle.tables.proofs.Cells.{Chained, AllChained, cell-slots, chain-slots, times-head}
 use Rattle.tables.proofs.Once.{OnceFacts}
 use Rattle.tables.proofs.Reading.{head-small}
-use Rattle.chains.specs.Links.{linked, released}
+use Rattle.links.specs.Links.{linked, released}
 use Rattle.chains.specs.Cells.{last-from}
 use Rattle.chains.specs.Held.{Held, top}
-use Rattle.chains.proofs.Links.{wiped, length-linked, linked-other, length-released, released-other, released-same, released-top}
+use Rattle.links.proofs.Links.{wiped, length-linked, linked-other, length-released, released-other, released-same, released-top}
 use Rattle.chains.proofs.Frames.{Off, ChainedTo, chained-to-off, all-off, chain-start, chain-end, chain-whole, last-stands, last-inside, link-row, relink, stands, stands-once, SameSlots, still-once, sum-append-cells, sum-cell}
 
 -- The cells before the place lead to slot h, and all other chains are whole.

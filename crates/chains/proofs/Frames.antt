@@ -13,9 +13,9 @@ use Rattle.tables.specs.Words.{Row, row-of, kind-of}
 use Rattle.tables.specs.Placed.{Cell, head, cell-row}
 use Rattle.tables.proofs.Cells.{Chained, AllChained, cell-slots, chain-slots, times, times-append, times-head}
 use Rattle.tables.proofs.Once.{OnceFacts, once-most}
-use Rattle.chains.specs.Links.{linked}
+use Rattle.links.specs.Links.{linked}
 use Rattle.chains.specs.Cells.{last-from}
-use Rattle.chains.proofs.Links.{linked-other, linked-same}
+use Rattle.links.proofs.Links.{linked-other, linked-same}
 
 -- Two tables that differ at slot s, and at slot 0, only.
 abbrev pub Off : ℕ → List ℕ → List ℕ → Type 0

@@ -8,9 +8,9 @@ use Rattle.tables.specs.Words.{Row, row-of}
 use Rattle.tables.specs.Placed.{Cell, free-cell, head, cell-row}
 use Rattle.tables.proofs.Cells.{AllChained, times-head, cell-slots}
 use Rattle.tables.proofs.Reading.{head-small}
-use Rattle.chains.specs.Links.{linked, released, stamped}
+use Rattle.links.specs.Links.{linked, released, stamped}
 use Rattle.chains.specs.Held.{Held, top}
-use Rattle.chains.proofs.Links.{length-stamped, stamped-other, stamped-same}
+use Rattle.links.proofs.Links.{length-stamped, stamped-other, stamped-same}
 use Rattle.chains.proofs.Frames.{Off, all-off, stands-once, SameSlots, still-once, sum-cell, sum-none}
 use Rattle.chains.proofs.Cuts.{Cut, cut, join, cut-swap, linked-after, relinked, freed, replaced, shifted}
 

@@ -1,5 +1,4 @@
 -- Laws of held chains: what each change of a table leaves of them.
-pub mod Links
 pub mod Frames
 pub mod Cuts
 pub mod Laws

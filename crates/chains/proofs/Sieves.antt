@@ -14,7 +14,7 @@ use Rattle.tables.specs.Sound.{chain-from}
 use Rattle.tables.specs.Placed.{Cell, head}
 use Rattle.tables.proofs.Rows.{InTable}
 use Rattle.tables.proofs.Cells.{cell-slots}
-use Rattle.chains.specs.Links.{linked, released}
+use Rattle.links.specs.Links.{linked, released}
 use Rattle.chains.specs.Cells.{cell-at, last-slot}
 use Rattle.chains.specs.Held.{Held}
 use Rattle.chains.specs.Sifting.{Sift, Sifting, Sifts, cells-left, left-at, Chain, OneHeld, Sifted, sift-of}

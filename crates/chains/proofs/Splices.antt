@@ -12,7 +12,7 @@ use Rattle.tables.specs.Words.{next-of}
 use Rattle.tables.specs.Sound.{chain-from, order-key}
 use Rattle.tables.specs.Placed.{Cell, head}
 use Rattle.tables.proofs.Rows.{InTable}
-use Rattle.chains.specs.Links.{linked}
+use Rattle.links.specs.Links.{linked}
 use Rattle.chains.specs.Cells.{cell-key, cell-before, last-slot}
 use Rattle.chains.specs.Held.{Held}
 use Rattle.chains.specs.Splicing.{Chains, TwoHeld, Spliced, Splice, Splicing, to-do}

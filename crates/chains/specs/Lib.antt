@@ -1,5 +1,4 @@
 -- Cells in chains, and what each change of a chain leaves.
-pub mod Links
 pub mod Cells
 pub mod Order
 pub mod Held

@@ -1,21 +1,15 @@
 // A chain walked with a cursor: its cells dropped, or another chain's cells put between them, in place.
+use links::release;
+use links::set_next;
 use rows::next_of;
 use rows::order_key;
-use rows::set_row;
-use rows::stamp_of;
 ghost use mathlib.Core.Path.{_≡_};
 ghost use mathlib.Core.Logic.{_≢_};
-ghost use Prim.Native.Nat.{_+_, _*_, _<_, max};
-ghost use lib.ListN.{length};
+ghost use Prim.Native.Nat.{_+_, _<_};
 ghost use Rattle.lists.specs.All.{Exists};
-ghost use Rattle.tables.specs.Words.{stamp-of};
-ghost use Rattle.chains.specs.Links.{linked, released, stamped};
 ghost use Rattle.chains.specs.Cells.{cell-at};
 ghost use Rattle.chains.specs.Sifting.{Sift, Sifting, Sifts};
 ghost use Rattle.chains.specs.Splicing.{Splice, Splicing, Chains, TwoHeld, Spliced, to-do};
-
-// Slots are chained, and kinds stacked on them, at this base.
-const BASE: u32 = 65536;
 
 // A place in a chain: its first slot, the slot before the place (0 for none), the slot at it, and how many cells have gone.
 pub struct Cursor {
@@ -83,18 +77,6 @@ pub fn splice(e: &mut [u32], upper: usize, lower: usize) -> usize
     m.head
 }
 
-// The slot's stamp becomes the later of its own and another's.
-pub fn restamp(e: &mut [u32], slot: usize, other: usize)
-    requires { ⌜ 4 * slot + 3 < length (now e) ⌝ }
-    requires { ⌜ 4 * other + 3 < length (now e) ⌝ }
-    ensures { λ _. ⌜ now (e .exit) ≡ stamped (now (e .entry)) slot (max (stamp-of (now (e .entry)) slot) (stamp-of (now (e .entry)) other)) ⌝ }
-{
-    let stamp = stamp_of(e, other);
-    if e[4 * slot + 3] < stamp {
-        e[4 * slot + 3] = stamp;
-    }
-}
-
 // The first upper cell goes before the cursor's, or the cursor passes a cell that comes before it.
 fn splice_step(e: &mut [u32], m: Pair) -> Pair
     requires { ⌜ Exists (λ g. Splicing g (now e) m) ⌝ }
@@ -129,24 +111,4 @@ fn splice_step(e: &mut [u32], m: Pair) -> Pair
         prior: m.upper,
         at: m.at,
     }
-}
-
-// The slot's next becomes another.
-fn set_next(e: &mut [u32], slot: usize, next: usize)
-    requires { ⌜ 4 * slot + 3 < length (now e) ⌝ }
-    requires { ⌜ next < 65536 ⌝ }
-    ensures { λ _. ⌜ now (e .exit) ≡ linked (now (e .entry)) slot next ⌝ }
-{
-    e[4 * slot] = e[4 * slot] / BASE * BASE + next as u32;
-}
-
-// A slot wiped, so that nothing of its record is left, and made the first of the free ones.
-fn release(e: &mut [u32], slot: usize)
-    requires { ⌜ 4 * slot + 3 < length (now e) ⌝ }
-    requires { ⌜ slot < 65536 ⌝ }
-    ensures { λ _. ⌜ now (e .exit) ≡ released (now (e .entry)) slot ⌝ }
-{
-    let first = e[0];
-    set_row(e, slot, first, 0, 0, 0);
-    e[0] = slot as u32;
 }

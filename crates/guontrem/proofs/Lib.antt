@@ -1,4 +1,4 @@
 -- Laws of what goes out to C.
 pub mod Stamped
 pub mod Numbers
-pub mod Packing
+pub mod Rooms

@@ -7,9 +7,9 @@ use Rattle.model.specs.Calls.{Call}
 use Rattle.tables.proofs.LevelSound.{Fits32}
 use Rattle.calls.specs.Calls.{Called, call-tables}
 use Rattle.calls.proofs.Bounds.{refusal-most, merges-most-12}
-use Rattle.stages.specs.declared.Answer.{Answer}
-use Rattle.stages.specs.Coded.{answer-of, lent, called}
-use Rattle.guontrem.specs.Packed.{answer-number, packed-call}
+use Rattle.refusals.specs.declared.Answer.{Answer}
+use Rattle.refusals.specs.Coded.{answer-of, lent, called}
+use Rattle.packing.specs.Packed.{answer-number, packed-call}
 
 module _ (e l e′ l′ : List ℕ) (r : Answer) (c : Call ℕ) (is : called e′ l′ r ≡ call-tables (lent e l) c) where
   pub refusal-fits : r .refusal ≤ 255

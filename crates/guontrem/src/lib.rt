@@ -1,9 +1,10 @@
 // The library for C: each call under a name of its own, its answer as one number.
-use lookup::Answer;
 use lookup::lookup;
 use make::make;
+use packing::pack;
+use packing::pack_lookup;
+use packing::pack_scan;
 use scan::Row;
-use scan::Scanned;
 use scan::scan;
 use soundness::table_refusal;
 use timed::delete;
@@ -12,7 +13,6 @@ use timed::flush;
 use timed::put;
 use timed::tick;
 ghost use mathlib.Core.Path.{_≡_};
-ghost use Prim.Native.Nat.{_<_, _≤_};
 ghost use Rattle.tables.specs.Sound.{table-refusal};
 ghost use Rattle.make.specs.Make.{make-tables};
 ghost use Rattle.lookup.specs.Lookup.{lookup-tables};
@@ -20,23 +20,8 @@ ghost use Rattle.model.specs.Steps.{put, delete, delete-range};
 ghost use Rattle.model.specs.Calls.{written, flush, tick};
 ghost use Rattle.calls.specs.Calls.{call-tables};
 ghost use Rattle.scan.specs.Scan.{scan-tables};
-ghost use Rattle.stages.specs.Coded.{lent};
-ghost use Rattle.guontrem.specs.Packed.{packed, answer-number, packed-call, packed-scan};
-
-// Stamps stand above the tally.
-const STAMP_UNIT: u64 = 4294967296;
-
-// Merges stand above the purged records, and the refusal above the merges.
-const MERGES_UNIT: u64 = 4294967296;
-
-const REFUSAL_UNIT: u64 = 1099511627776;
-
-// The next docket, 'more' and the refusal of a scan stand above its count.
-const NEXT_UNIT: u64 = 4294967296;
-
-const MORE_UNIT: u64 = 281474976710656;
-
-const SCAN_REFUSAL_UNIT: u64 = 72057594037927936;
+ghost use Rattle.refusals.specs.Coded.{lent};
+ghost use Rattle.packing.specs.Packed.{packed, packed-call, packed-scan};
 
 // The number of the refusal that the tables meet, 1 to 3, or 0 where they are sound.
 #[no_mangle]
@@ -66,20 +51,7 @@ pub extern "C" fn guontrem_make(
 pub extern "C" fn guontrem_lookup(entries: &[u32], levels: &[u32], docket: u32) -> u64
     ensures { λ r. ⌜ r ≡ packed (lookup-tables (now (entries .entry)) (now (levels .entry)) docket) ⌝ }
 {
-    match lookup(entries, levels, docket) {
-        Answer::Refused(number) => number as u64,
-        Answer::Absent => 0,
-        Answer::Found(tally, stamp) => tally as u64 + STAMP_UNIT * stamp as u64,
-    }
-}
-
-// The numbers of a timed call's answer in one: purged in the lower half, merges from bit 32, the refusal from bit 40.
-fn pack(refusal: u32, merges: u32, purged: u32) -> u64
-    requires { ⌜ refusal ≤ 255 ⌝ }
-    requires { ⌜ merges ≤ 255 ⌝ }
-    ensures { λ r. ⌜ r ≡ answer-number (record { refusal = refusal; merges = merges; purged = purged }) ⌝ }
-{
-    purged as u64 + MERGES_UNIT * merges as u64 + REFUSAL_UNIT * refusal as u64
+    pack_lookup(lookup(entries, levels, docket))
 }
 
 // Puts a docket's tally.
@@ -157,18 +129,4 @@ pub extern "C" fn guontrem_scan(
     ensures { λ _. ⌜ now (rows .exit) ≡ scan-tables (now (entries .entry)) (now (levels .entry)) lo hi (now (rows .entry)) .rows ⌝ }
 {
     pack_scan(scan(entries, levels, lo, hi, rows))
-}
-
-// The answer of a scan as one number.
-fn pack_scan(answer: Scanned) -> u64
-    requires { ⌜ (answer .count < 4294967296) × (answer .next < 65536) × (answer .refusal < 256) ⌝ }
-    ensures { λ r. ⌜ r ≡ packed-scan answer ⌝ }
-{
-    if answer.more {
-        return answer.count as u64
-            + NEXT_UNIT * answer.next as u64
-            + MORE_UNIT
-            + SCAN_REFUSAL_UNIT * answer.refusal as u64;
-    }
-    answer.count as u64 + NEXT_UNIT * answer.next as u64 + SCAN_REFUSAL_UNIT * answer.refusal as u64
 }

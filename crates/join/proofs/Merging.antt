@@ -13,7 +13,7 @@ use Rattle.chains.specs.Splicing.{Chains, TwoHeld, Spliced}
 use Rattle.strike.specs.Striking.{Meeting, MeetingHeld, Struck}
 use Rattle.unite.specs.Uniting.{RangesHeld, United}
 use Rattle.chains.specs.declared.Cursor.{Cursor}
-use Rattle.join.specs.declared.Level.{Level}
+use Rattle.level_rows.specs.declared.Level.{Level}
 use Rattle.join.specs.Joining.{Levels, LevelsHeld, MergedHeld, merging}
 use Rattle.join.proofs.Points.{points-ordered}
 use Rattle.join.proofs.Ranges.{ranges-ordered, later-ranges, later-head}

@@ -15,7 +15,7 @@ use Rattle.chains.specs.Sifting.{Chain, OneHeld, Sifted}
 use Rattle.sieve.specs.Doomed.{doomed}
 use Rattle.sieve.specs.declared.Doomed.the-variants.{Deletes, All}
 use Rattle.chains.specs.declared.Cursor.{Cursor}
-use Rattle.join.specs.declared.Level.{Level}
+use Rattle.level_rows.specs.declared.Level.{Level}
 use Rattle.join.specs.Joining.{Levels, Merged, MergedHeld, Settled, Joined, merging}
 use Rattle.join.proofs.Points.{delete-cells, put-cells}
 use Rattle.join.proofs.Levels.{release-append}

@@ -8,7 +8,7 @@ use Rattle.model.specs.Merge.{gone, release, merged, settled, delete-slots, joi
 use Rattle.tables.specs.Placed.{Cell, point-cell, range-cell, head}
 use Rattle.tables.specs.Formed.{LevelFormed}
 use Rattle.chains.specs.Held.{Held}
-use Rattle.join.specs.declared.Level.{Level}
+use Rattle.level_rows.specs.declared.Level.{Level}
 
 -- What the row of a level tells.
 abbrev pub level-of : model.Level ℕ ℕ → Level

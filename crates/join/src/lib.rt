@@ -1,21 +1,13 @@
 // One level merged into another, chain by chain.
 use chains::splice;
+use level_rows::Level;
+use level_rows::earlier;
 use sieve::Doomed;
 use sieve::sieve;
 use strike::strike;
 use unite::unite;
-ghost use mathlib.Core.Path.{_≡_};
 ghost use Rattle.lists.specs.All.{Exists};
-ghost use Rattle.model.specs.Merge.{earlier};
 ghost use Rattle.join.specs.Joining.{Levels, LevelsHeld, Joined, Merged, MergedHeld, merging, Settled};
-
-// What a level's row tells: its first point, its first range, its number of records, and owed.
-pub struct Level {
-    pub points: usize,
-    pub ranges: usize,
-    pub held: usize,
-    pub owed: u32,
-}
 
 // The merge of two levels; at the deepest level the deletes are then wiped.
 pub fn join(e: &mut [u32], upper: Level, lower: Level, deepest: bool) -> Level
@@ -27,22 +19,6 @@ pub fn join(e: &mut [u32], upper: Level, lower: Level, deepest: bool) -> Level
         return merged;
     }
     settle(e, merged)
-}
-
-// Owed becomes the earlier one that is not zero.
-pub fn earlier(a: u32, b: u32) -> u32
-    ensures { λ r. ⌜ r ≡ earlier a b ⌝ }
-{
-    if a == 0 {
-        return b;
-    }
-    if b == 0 {
-        return a;
-    }
-    if b < a {
-        return b;
-    }
-    a
 }
 
 // The upper level merged into the lower.

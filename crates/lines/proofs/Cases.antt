@@ -1,6 +1,7 @@
 -- The lines of the tables, read by the definition.
 use mathlib.Core.Path.{refl}
-use Rattle.lines.specs.Lines.{digits, decimal, fields, line-of}
+use Rattle.fields.specs.Numbers.{digits, decimal}
+use Rattle.lines.specs.Lines.{fields, line-of}
 use Rattle.lines.specs.Cases.{bytes, FormTable, UnreadableTable}
 
 pub forms : FormTable

@@ -11,23 +11,11 @@ use lib.Seq.{drop-cons, drop-drop}
 use Rattle.lists.proofs.Bools.{by-cases}
 use Rattle.lines.specs.declared.Line.{Line}
 use Rattle.lines.specs.declared.Line.the-variants.{Is, Unreadable}
-use Rattle.lines.specs.declared.Field.{Field}
-use Rattle.lines.specs.declared.Field.the-variants.{Number, Missing}
-use Rattle.lines.specs.Lines.{digits, decimal, is-number, Taking, fields}
-use Rattle.lines.specs.Fields.{number-of, field-of, last-of}
-
-module _ (text : List ℕ) (at : ℕ) where
-  pub no-field : length text ≤ at → field-of at (drop at text) ≡ Missing
-  unfolding field-of
-  no-field h = rw (drop-of-length-le text h)
-
-  pub no-blank : at < length text → (getD text at 0 ≡ 32 → ⊥) → field-of at (drop at text) ≡ Missing
-  unfolding field-of
-  no-blank h other = rw (drop-cons text at 0 h, ne-eqb (getD text at 0) 32 other)
-
-  pub blank : at < length text → getD text at 0 ≡ 32 → field-of at (drop at text) ≡ number-of (at + 1) (digits (drop (at + 1) text))
-  unfolding field-of
-  blank h is = rw (drop-cons text at 0 h, eq-eqb (getD text at 0) 32 is, add-one at)
+use Rattle.fields.specs.declared.Field.{Field}
+use Rattle.fields.specs.declared.Field.the-variants.{Number, Missing}
+use Rattle.fields.specs.Numbers.{digits, decimal, is-number}
+use Rattle.fields.specs.Fields.{field-of, last-of}
+use Rattle.lines.specs.Lines.{Taking, fields}
 
 -- What a line becomes by a field: the number is taken, and the rest is read from the position after it.
 abbrev taken : (n : ℕ) → Taking (suc n) → List ℕ → Field → Line

@@ -1,6 +1,4 @@
--- Laws of numbers, fields and letters as they are read, and the table of lines.
-pub mod Numbers
-pub mod Reading
+-- Laws of fields and letters as they are read, and the table of lines.
 pub mod Fields
 pub mod Letters
 pub mod Long

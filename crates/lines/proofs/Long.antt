@@ -12,7 +12,8 @@ use Rattle.lists.proofs.Bools.{and-left, and-right, cond-elim}
 use Rattle.lines.specs.declared.Line.{Line}
 use Rattle.lines.specs.declared.Command.the-variants.{Make, Put, Delete, DeleteRange, Flush, Tick, Lookup}
 use Rattle.lines.specs.declared.Line.the-variants.{Unreadable}
-use Rattle.lines.specs.Lines.{digits, decimal, is-number, Taking, fields, line-of}
+use Rattle.fields.specs.Numbers.{digits, decimal, is-number}
+use Rattle.lines.specs.Lines.{Taking, fields, line-of}
 
 abbrev NoForm : Line → Type 0
 NoForm line = line ≡ Unreadable

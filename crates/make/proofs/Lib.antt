@@ -1,7 +1,4 @@
--- The laws of a made store, a file for each definition that they speak of; the last has what an accepted making leaves.
-pub mod Rows
-pub mod Entries
-pub mod Levels
+-- The laws of a made store; the last has what an accepted making leaves.
 pub mod Answers
 pub mod Fresh
 pub mod Accepted

@@ -18,10 +18,10 @@ use Rattle.tables.specs.Formed.{Formed}
 use Rattle.tables.proofs.Cells.{AllChained}
 use Rattle.tables.proofs.Back.{formed-once}
 use Rattle.tables.proofs.FormedSteps.{merge-at, formed-at, at-formed}
-use Rattle.join.specs.declared.Level.{Level}
+use Rattle.level_rows.specs.declared.Level.{Level}
 use Rattle.join.specs.Joining.{level-of, Levels, LevelsHeld, Joined}
 use Rattle.merges.specs.Laid.{Store, Laid, at-state, Worked}
-use Rattle.merges.specs.Rows.{level-at}
+use Rattle.level_rows.specs.Rows.{level-at}
 use Rattle.chains.proofs.Bounds.{first-head-fits, second-head-fits, two-few}
 use Rattle.chains.proofs.Frames.{SameSlots, still-once}
 use Rattle.merges.proofs.LevelChains.{without-pair, points-out, ranges-out, pair-out, level-in, weigh-pair-out}

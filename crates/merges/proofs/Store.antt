@@ -13,9 +13,9 @@ use Rattle.tables.specs.Placed.{row-of-level}
 use Rattle.tables.specs.Formed.{LevelFormed}
 use Rattle.tables.proofs.LevelRows.{length-level-words, settings-back, level-row-at}
 use Rattle.tables.proofs.FormedLevels.{empty-formed}
-use Rattle.join.specs.declared.Level.{Level}
+use Rattle.level_rows.specs.declared.Level.{Level}
 use Rattle.merges.specs.Laid.{Store, Laid}
-use Rattle.merges.specs.Rows.{level-at}
+use Rattle.level_rows.specs.Rows.{level-at}
 
 module _ (g : Store) (e l : List ℕ) (laid : Laid g e l) where
   -- The level table: its length, its first row, and the rows of the levels.

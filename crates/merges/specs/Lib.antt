@@ -1,3 +1,2 @@
 -- The two tables as the code of the merges meets them.
 pub mod Laid
-pub mod Rows

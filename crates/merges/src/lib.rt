@@ -1,45 +1,12 @@
 // Levels merged downwards in the two tables: one, or all of them in order.
-use join::Level;
 use join::join;
+use level_rows::level_at;
+use level_rows::set_level;
 use rows::set_row;
-ghost use mathlib.Core.Path.{_≡_};
-ghost use Prim.Native.Nat.{_+_, _*_, _<_, _≤_};
-ghost use lib.ListN.{length};
+ghost use Prim.Native.Nat.{_<_};
 ghost use Rattle.lists.specs.All.{Exists};
 ghost use Rattle.model.specs.Steps.{begin, merge-level, merge-all};
-ghost use Rattle.tables.specs.Words.{set-row};
 ghost use Rattle.merges.specs.Laid.{Store, Laid, Worked};
-ghost use Rattle.merges.specs.Rows.{level-at};
-
-// What the row of level i tells.
-pub fn level_at(l: &[u32], i: usize) -> Level
-    requires { ⌜ 4 * (i + 1) + 3 < length (now l) ⌝ }
-    ensures { λ r. ⌜ r ≡ level-at (now (l .entry)) i ⌝ }
-{
-    let row = 4 * (i + 1);
-    Level {
-        points: l[row] as usize,
-        ranges: l[row + 1] as usize,
-        held: l[row + 2] as usize,
-        owed: l[row + 3],
-    }
-}
-
-// The row of level i becomes that of another level.
-pub fn set_level(l: &mut [u32], i: usize, level: Level)
-    requires { ⌜ 4 * (i + 1) + 3 < length (now l) ⌝ }
-    requires { ⌜ (level .points ≤ 65535) × (level .ranges ≤ 65535) × (level .held ≤ 65535) ⌝ }
-    ensures { λ _. ⌜ now (l .exit) ≡ set-row (now (l .entry)) (i + 1) (record { w0 = level .points; w1 = level .ranges; w2 = level .held; w3 = level .owed }) ⌝ }
-{
-    set_row(
-        l,
-        i + 1,
-        level.points as u32,
-        level.ranges as u32,
-        level.held as u32,
-        level.owed,
-    );
-}
 
 // Level i merged into the next; how many merges that counts: 1 where level i had a record.
 pub fn merge_level(e: &mut [u32], l: &mut [u32], i: usize) -> u32

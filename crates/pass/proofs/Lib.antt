@@ -1,3 +1,2 @@
--- Laws of the pass: which levels are due, and what it does to them.
-pub mod Due
+-- Laws of the pass: what it does to the levels that are due.
 pub mod Passing

@@ -1,17 +1,12 @@
 // The pass: the buffer merged where it is full, then each level from 1 to L−1 that is over its capacity or its limit.
-use merges::level_at;
+use due::is_due;
+use level_rows::level_at;
 use merges::merge_level;
-use settings::Settings;
 ghost use mathlib.Core.Path.{_≡_};
-ghost use mathlib.Core.Bool.{true};
-ghost use Prim.Native.Nat.{_+_, _*_, _<_, _≤_};
-ghost use lib.ListN.{length};
-ghost use Rattle.settings.specs.Checked.{inner};
+ghost use Prim.Native.Nat.{_<_, _≤_};
 ghost use Rattle.lists.specs.All.{Exists};
 ghost use Rattle.model.specs.Steps.{begin, pass-buffer, pass-level, pass};
-ghost use Rattle.tables.specs.Words.{settings-of, level-row};
 ghost use Rattle.merges.specs.Laid.{Store, Laid, Worked};
-ghost use Rattle.pass.specs.Due.{due-row};
 
 // The whole pass; how many merges it counts.
 pub fn pass(e: &mut [u32], l: &mut [u32], clock: u32) -> u32
@@ -50,34 +45,4 @@ fn pass_level(e: &mut [u32], l: &mut [u32], clock: u32, i: usize) -> u32
         return 0;
     }
     merge_level(e, l, i)
-}
-
-// Whether level i has more than its capacity, or has owed for its limit.
-fn is_due(l: &[u32], clock: u32, i: usize) -> bool
-    requires { ⌜ 4 * (i + 1) + 3 < length (now l) ⌝ }
-    requires { ⌜ inner (settings-of (now l)) i ≡ true ⌝ }
-    requires { ⌜ level-row (now l) i .w3 ≤ clock ⌝ }
-    ensures { λ r. ⌜ r ≡ due-row (settings-of (now (l .entry))) clock i (level-row (now (l .entry)) i) ⌝ }
-{
-    let settings = settings_of(l);
-    let level = level_at(l, i);
-    if settings.inner_capacity(i as u32) < level.held as u64 {
-        return true;
-    }
-    if level.owed == 0 {
-        return false;
-    }
-    settings.inner_limit(i as u32) <= (clock - level.owed) as u64
-}
-
-fn settings_of(l: &[u32]) -> Settings
-    requires { ⌜ 4 ≤ length (now l) ⌝ }
-    ensures { λ r. ⌜ r ≡ settings-of (now (l .entry)) ⌝ }
-{
-    Settings {
-        deepest: l[0],
-        ratio: l[1],
-        buffer: l[2],
-        term: l[3],
-    }
 }

@@ -10,12 +10,15 @@ use Rattle.model.specs.Calls.{prepared, finish, step}
 use Rattle.tables.specs.Words.{set-row}
 use Rattle.tables.specs.Sound.{chain, ascend, level-sound, levels-sound, record-slots, once-each, chains-sound, entries-fit, levels-fit, table-refusal}
 use Rattle.tables.specs.Placed.{read-levels, read-state, lay, lay-all, entry-words, row-words, level-words}
-use Rattle.make.specs.Make.{free-words, made-entries, made-levels, make-tables}
+use Rattle.fresh.specs.Fresh.{free-words, made-entries, made-levels}
+use Rattle.make.specs.Make.{make-tables}
 use Rattle.lookup.specs.Lookup.{lookup-tables}
 use Rattle.calls.specs.Calls.{call-tables}
-use Rattle.lines.specs.Lines.{digits, decimal, fields, line-of}
+use Rattle.fields.specs.Numbers.{digits, decimal}
+use Rattle.lines.specs.Lines.{fields, line-of}
 use Rattle.lines.specs.Cases.{bytes}
-use Rattle.script.specs.Script.{makes, does, finds, command-step, line-step}
+use Rattle.memory.specs.Memory.{makes, does, finds}
+use Rattle.script.specs.Script.{command-step, line-step}
 use Rattle.script.specs.Cases.{prints, CaseTable}
 
 pub cases : CaseTable

@@ -1,6 +1,4 @@
--- What the functions' contracts follow from.
-pub mod Parts
-pub mod Turns
-pub mod Makes
+-- What a command and a line do, and that the memory has room for it.
+pub mod Commands
 pub mod Sizes
 pub mod Cases

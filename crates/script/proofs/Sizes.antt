@@ -16,10 +16,11 @@ use Rattle.lines.specs.declared.Command.{Command}
 use Rattle.lines.specs.declared.Command.the-variants.{Make, Put, Delete, DeleteRange, Flush, Tick, Lookup}
 use Rattle.lines.specs.declared.Line.{Line}
 use Rattle.lines.specs.declared.Line.the-variants.{Is, Unreadable}
-use Rattle.script.specs.declared.Size.{Size}
-use Rattle.script.specs.declared.Turn.{Turn}
-use Rattle.script.specs.Script.{Memory, Stepped, entry-length, level-room, with-tables, answers-alone, is-early, makes, does, finds, carried-out, command-step, line-step}
-use Rattle.script.specs.Memory.{Fits, memory, stepped}
+use Rattle.memory.specs.declared.Size.{Size}
+use Rattle.memory.specs.declared.Turn.{Turn}
+use Rattle.memory.specs.Memory.{Memory, Stepped, entry-length, level-room, with-tables, answers-alone, makes, does, finds}
+use Rattle.script.specs.Script.{is-early, carried-out, command-step, line-step}
+use Rattle.memory.specs.Coded.{Fits, memory, stepped}
 
 abbrev Small : Memory → Type 0
 Small m = (m .slots ≤ 4000) × (m .deepest ≤ 6)

@@ -6,7 +6,8 @@ use Prim.Native.String.{String}
 use lib.ListN.{replicate}
 use Rattle.lines.specs.Lines.{line-of}
 use Rattle.lines.specs.Cases.{bytes}
-use Rattle.script.specs.Script.{Memory, Printed, line-step}
+use Rattle.memory.specs.Memory.{Memory, Printed}
+use Rattle.script.specs.Script.{line-step}
 
 -- What the lines print, one after the other.
 unfoldable pub prints : Memory → List String → List Printed

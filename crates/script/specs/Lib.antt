@@ -1,4 +1,3 @@
--- The script, line by line.
+-- What a line does.
 pub mod Script
-pub mod Memory
 pub mod Cases

@@ -8,8 +8,8 @@ use lib.ListN.{replicate, length-replicate}
 use Rattle.marks.proofs.Marks.{mark-blank}
 use Rattle.tables.specs.Words.{slots-of}
 use Rattle.tables.specs.Sound.{chains-sound, entries-fit, levels-fit, table-refusal}
-use Rattle.soundness.specs.Levels.{chains-fit}
-use Rattle.soundness.proofs.Means.{chains-mean}
+use Rattle.chains_check.specs.Levels.{chains-fit}
+use Rattle.chains_check.proofs.Means.{chains-mean}
 
 module _ (e l : List ℕ) where
   pub answer-1 : entries-fit e ≡ false → 1 ≡ table-refusal e l

@@ -1,6 +1,3 @@
 -- The laws of the check.
 pub mod Tables
-pub mod Levels
-pub mod Once
-pub mod Means
 pub mod Answer

@@ -21,10 +21,11 @@ use Rattle.tables.specs.Placed.{read-state, entry-words, level-words}
 use Rattle.tables.specs.Formed.{Formed, levels-slots}
 use Rattle.tables.proofs.Once.{once-facts}
 use Rattle.calls.specs.Calls.{wrote, call-tables}
-use Rattle.stages.specs.declared.Answer.{Answer}
+use Rattle.refusals.specs.declared.Answer.{Answer}
 use Rattle.merges.specs.Laid.{at-state}
-use Rattle.stages.specs.Coded.{answer-of, lent, called, Began, Ended}
-use Rattle.stages.proofs.Begun.{store, begun-formed, begun-time}
+use Rattle.refusals.specs.Coded.{answer-of, lent, called, Began}
+use Rattle.stages.specs.Ending.{Ended}
+use Rattle.refusals.proofs.Begun.{store, begun-formed, begun-time}
 
 -- A formed state has all its slots.
 held-slots : (ls : List (Level ℕ ℕ)) → length (levels-slots ls) ≡ held-all ls

@@ -12,10 +12,11 @@ use Rattle.model.specs.Calls.{Op, flush, tick, count-written, timed, prepared, 
 use Rattle.model.proofs.Numbers.{merge-level-merges, merge-all-merges, pass-merges-most}
 use Rattle.tables.specs.Placed.{read-state, level-words}
 use Rattle.calls.specs.Calls.{call-tables}
-use Rattle.stages.specs.declared.Answer.{Answer}
+use Rattle.refusals.specs.declared.Answer.{Answer}
 use Rattle.merges.specs.Laid.{Store, Laid, Worked, at-state}
-use Rattle.stages.specs.Coded.{lent, called, Began, RowsAre, Ending, Ended}
-use Rattle.stages.proofs.Begun.{store, begun-formed}
+use Rattle.refusals.specs.Coded.{lent, called, Began}
+use Rattle.stages.specs.Ending.{RowsAre, Ending, Ended}
+use Rattle.refusals.proofs.Begun.{store, begun-formed}
 use Rattle.stages.proofs.Ends.{enough, ended-called}
 use Rattle.stages.proofs.Laying.{laid-rows, clocked}
 

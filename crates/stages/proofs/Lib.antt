@@ -1,5 +1,4 @@
 -- What each part of a timed call leaves is what the definition of the call says.
-pub mod Begun
 pub mod Preparing
 pub mod Ends
 pub mod Laying

@@ -8,7 +8,7 @@ use Rattle.model.specs.Merge.{release}
 use Rattle.model.specs.Steps.{Write, put, delete, delete-range, merge-state, merge-all, displaced, enter, act-deepest, crowded, make-room, full, write, no-slot}
 use Rattle.model.specs.Calls.{written, prepared, out-of-slots}
 use Rattle.model.proofs.Keeps.{has-room, merge-all-keeps}
-use Rattle.writes.specs.Acting.{can-act}
+use Rattle.acts.specs.Acting.{can-act}
 
 -- A write that is not out of slots, and the work that it does before its pass.
 pub record Prepared (t : ℕ) (v : Write ℕ) (s q : State ℕ ℕ) (m : ℕ) : Type 0 where

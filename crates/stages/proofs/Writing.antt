@@ -16,14 +16,15 @@ use Rattle.tables.specs.Placed.{read-state}
 use Rattle.tables.proofs.Back.{formed-words}
 use Rattle.tables.proofs.FormedSteps.{merge-all-formed}
 use Rattle.calls.specs.Calls.{call-tables}
-use Rattle.stages.specs.declared.Answer.{Answer}
+use Rattle.refusals.specs.declared.Answer.{Answer}
 use Rattle.writes.specs.declared.Record.{Record}
 use Rattle.writes.specs.Records.{record-of}
-use Rattle.writes.specs.Entering.{Entering}
-use Rattle.writes.specs.Acting.{Acted}
+use Rattle.enters.specs.Entering.{Entering}
+use Rattle.acts.specs.Acting.{Acted}
 use Rattle.merges.specs.Laid.{Laid, Worked, at-state}
-use Rattle.stages.specs.Coded.{answer-of, lent, called, Began, Ending, Ended}
-use Rattle.stages.proofs.Begun.{store, begun-formed, begun-laid}
+use Rattle.refusals.specs.Coded.{answer-of, lent, called, Began}
+use Rattle.stages.specs.Ending.{Ending, Ended}
+use Rattle.refusals.proofs.Begun.{store, begun-formed, begun-laid}
 use Rattle.stages.proofs.Preparing.{Prepared, enters-room, enters-after, enters-after-room, acts, refused-full, merged-settings}
 use Rattle.stages.proofs.Ends.{full-called}
 use Rattle.stages.proofs.Laying.{no-free, some-free}
@@ -37,15 +38,12 @@ module _ (e l : List ℕ) (t : ℕ) (v : Write ℕ) (b : Began e l t (written v)
   merged = merge-all p .state
 
   -- What is handed to the pass, and that its end is the call's, however the write was prepared.
-  module _ (q : State ℕ ℕ) (m : ℕ) (r : Prepared t v p q m) (few : m ≤ 6) (held : ℕ) (adds : held ≡ held-all (p .levels)) where
-    one-more : held + 1 ≡ held-all (p .levels) + 1
-    one-more = omega arith
+  module _ (q : State ℕ ℕ) (m : ℕ) (r : Prepared t v p q m) (few : m ≤ 6) (before : ℕ) (one-more : before ≡ held-all (p .levels) + 1) where
+    pub pass-next : (e′ l′ : List ℕ) → Laid (at-state (store e l t) q) e′ l′ → Ending (at-state (store e l t) q) e′ l′ t before m
+    pass-next e′ l′ d = ending e l t (written v) b q m (r .work) before one-more few e′ l′ d
 
-    pub pass-next : (e′ l′ : List ℕ) → Laid (at-state (store e l t) q) e′ l′ → Ending (at-state (store e l t) q) e′ l′ t (held + 1) m
-    pass-next e′ l′ d = ending e l t (written v) b q m (r .work) (held + 1) one-more few e′ l′ d
-
-    pub passed : (e′ l′ : List ℕ) (a : Answer) → Ended (at-state (store e l t) q) t (held + 1) m e′ l′ a → called e′ l′ a ≡ call-tables (lent e l) (record { clock = t; op = written v })
-    passed e′ l′ a d = ends e l t (written v) b q m (r .work) (held + 1) one-more (r .slot) e′ l′ a d
+    pub passed : (e′ l′ : List ℕ) (a : Answer) → Ended (at-state (store e l t) q) t before m e′ l′ a → called e′ l′ a ≡ call-tables (lent e l) (record { clock = t; op = written v })
+    passed e′ l′ a d = ends e l t (written v) b q m (r .work) before one-more (r .slot) e′ l′ a d
 
   -- A write with room.
   pub entering : crowded t v p ≡ false → Entering (store e l t) e l t w

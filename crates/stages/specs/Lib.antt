@@ -1,2 +1,3 @@
 -- What the parts of a timed call hand on.
-pub mod Coded
+pub mod Ending
+pub mod Crowded

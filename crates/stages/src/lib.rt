@@ -1,83 +1,48 @@
-// The stages of a timed call: what turns it away at once, a write up to its pass, and the pass that ends it.
+// The stages of a timed call that was not turned away: a write up to its pass, and the pass that ends every call.
+use acts::act;
+use enters::enter;
 use merges::merge_all;
 use pass::pass;
-use soundness::table_refusal;
+use refusals::Answer;
+use refusals::refused;
 use writes::Record;
-use writes::act;
-use writes::enter;
 use writes::is_crowded;
 ghost use mathlib.Core.Path.{_≡_};
 ghost use Prim.Native.Nat.{ℕ};
 ghost use Rattle.lists.specs.All.{Exists};
 ghost use Rattle.model.specs.Records.{State, held-all};
 ghost use Rattle.model.specs.Steps.{Write};
-ghost use Rattle.model.specs.Calls.{written, refusing};
+ghost use Rattle.model.specs.Calls.{written};
 ghost use Rattle.merges.specs.Laid.{Store};
 ghost use Rattle.writes.specs.Records.{record-of};
 ghost use Rattle.calls.specs.Calls.{call-tables};
-ghost use Rattle.stages.specs.Coded.{answer-of, lent, called, call-refusal, Began, RowsAre, Ending, Ended};
+ghost use Rattle.refusals.specs.Coded.{lent, called, Began};
+ghost use Rattle.stages.specs.Ending.{RowsAre, Ending, Ended};
+ghost use Rattle.stages.specs.Crowded.{Crowded};
 
-const LAST_DOCKET: u32 = 65535;
-
-// The refusals of document 01.
-const BAD_DOCKET: u32 = 4;
-
-const BAD_CLOCK: u32 = 5;
-
+// The refusal where no slot is free.
 const FULL: u32 = 7;
 
-// A refusal's number with zeros, or 0 with the merges and the records that have gone.
-pub struct Answer {
-    pub refusal: u32,
-    pub merges: u32,
-    pub purged: u32,
-}
-
-// The first of the refusals 1 to 5 that the call meets, or 0.
-pub fn refusal_of(e: &[u32], l: &[u32], clock: u32, lo: u32, hi: u32) -> u32
-    ensures { λ r. ⌜ r ≡ call-refusal (now (e .entry)) (now (l .entry)) clock lo hi ⌝ }
-{
-    let refusal = table_refusal(e, l);
-    if refusal != 0 {
-        return refusal;
-    }
-    if LAST_DOCKET < hi {
-        return BAD_DOCKET;
-    }
-    if hi < lo {
-        return BAD_DOCKET;
-    }
-    if clock == 0 {
-        return BAD_CLOCK;
-    }
-    if clock < e[1] {
-        return BAD_CLOCK;
-    }
-    0
-}
-
-// A refusal gives its number and zeros.
-pub fn refused(refusal: u32) -> Answer
-    ensures { λ r. ⌜ answer-of r ≡ refusing refusal ⌝ }
-{
-    Answer {
-        refusal: refusal,
-        merges: 0,
-        purged: 0,
-    }
-}
-
-// A write whose refusals 1 to 5 have been asked for: into the buffer, after merges where that is crowded, or onto level L where no slot is free even then.
+// A write whose refusals 1 to 5 have been asked for.
 pub fn write(e: &mut [u32], l: &mut [u32], clock: u32, w: Record) -> Answer
     requires { ⌜ Exists (λ v. Began (now e) (now l) clock (written v) × (w ≡ record-of v)) ⌝ }
     ensures { λ r. ⌜ ((v : Write ℕ) → Began (now (e .entry)) (now (l .entry)) clock (written v) → w ≡ record-of v
         → called (now (e .exit)) (now (l .exit)) r ≡ call-tables (lent (now (e .entry)) (now (l .entry))) (record { clock = clock; op = written v })) ⌝ }
 {
     let before = held_all(l) + 1;
-    if !is_crowded(e, l, w) {
-        enter(e, l, clock, w);
-        return finish(e, l, clock, before, 0);
+    if is_crowded(e, l, w) {
+        return write_crowded(e, l, clock, w, before);
     }
+    enter(e, l, clock, w);
+    finish(e, l, clock, before, 0)
+}
+
+// Where the buffer has no room the levels are merged first; then into the buffer, or onto level L where no slot is free even then.
+fn write_crowded(e: &mut [u32], l: &mut [u32], clock: u32, w: Record, before: u32) -> Answer
+    requires { ⌜ Exists (λ v. Crowded v (now e) (now l) clock w before) ⌝ }
+    ensures { λ r. ⌜ ((v : Write ℕ) → Crowded v (now (e .entry)) (now (l .entry)) clock w before
+        → called (now (e .exit)) (now (l .exit)) r ≡ call-tables (lent (now (e .entry)) (now (l .entry))) (record { clock = clock; op = written v })) ⌝ }
+{
     let merges = merge_all(e, l);
     if e[0] != 0 {
         enter(e, l, clock, w);

@@ -3,10 +3,12 @@ use mathlib.Core.Path.{_≡_, refl, ap, _∙_}
 use mathlib.Core.List.{List, [], _∷_, _++_, map}
 use Prim.Native.Nat.{ℕ}
 use Prim.Native.String.{String}
-use Rattle.lines.specs.Lines.{digits, decimal, fields, line-of}
+use Rattle.fields.specs.Numbers.{digits, decimal}
+use Rattle.lines.specs.Lines.{fields, line-of}
 use Rattle.lines.specs.Cases.{bytes}
 use Rattle.prints.specs.Texts.{digits-within, decimal-text, numbers-text}
-use Rattle.script.specs.Script.{Memory, Printed, command-step, line-step}
+use Rattle.memory.specs.Memory.{Memory, Printed}
+use Rattle.script.specs.Script.{command-step, line-step}
 use Rattle.script.specs.Cases.{prints, no-store}
 use Rattle.script.proofs.Cases as script
 use Rattle.stream.specs.Input.{before-lines, lines-in, text-of, output-of}

@@ -11,9 +11,10 @@ use Rattle.lines.specs.Lines.{line-of}
 use Rattle.prints.specs.Texts.{numbers-text, overwrite}
 use Rattle.prints.proofs.Digits.{length-numbers}
 use Rattle.prints.proofs.Overwrites.{Printed}
-use Rattle.script.specs.declared.Turn.{Turn}
-use Rattle.script.specs.Script.{Stepped, line-step}
-use Rattle.script.specs.Memory.{memory, stepped}
+use Rattle.memory.specs.declared.Turn.{Turn}
+use Rattle.memory.specs.Memory.{Stepped}
+use Rattle.script.specs.Script.{line-step}
+use Rattle.memory.specs.Coded.{memory, stepped}
 use Rattle.stream.specs.declared.Progress.{Progress}
 use Rattle.stream.specs.Input.{text-of}
 use Rattle.stream.specs.Blocks.{Standing, kept, ended, taken, fed, finished}

@@ -11,7 +11,8 @@ use lib.Seq.{take-all, take-append-le, take-at, length-take-le}
 use Rattle.lists.proofs.Bools.{by-cases}
 use Rattle.lines.specs.Lines.{line-of}
 use Rattle.lines.proofs.Long.{long-unreadable}
-use Rattle.script.specs.Script.{Memory, line-step}
+use Rattle.memory.specs.Memory.{Memory}
+use Rattle.script.specs.Script.{line-step}
 use Rattle.stream.specs.Input.{before-lines, lines-in, text-of, output-of}
 use Rattle.stream.specs.Blocks.{Standing, kept, ended, taken, fed, finished, written, writes}
 

@@ -6,7 +6,8 @@ use Prim.Native.Nat.{ℕ}
 use lib.Dec.{eqb}
 use lib.ListN.{length, take}
 use Rattle.lines.specs.Lines.{line-of}
-use Rattle.script.specs.Script.{Memory, line-step}
+use Rattle.memory.specs.Memory.{Memory}
+use Rattle.script.specs.Script.{line-step}
 use Rattle.stream.specs.Input.{text-of}
 
 -- Where a script stands.

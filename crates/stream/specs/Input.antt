@@ -6,7 +6,8 @@ use Prim.Native.Nat.{ℕ}
 use lib.Dec.{eqb}
 use Rattle.lines.specs.Lines.{line-of}
 use Rattle.prints.specs.Texts.{numbers-text}
-use Rattle.script.specs.Script.{Memory, Printed, line-step}
+use Rattle.memory.specs.Memory.{Memory, Printed}
+use Rattle.script.specs.Script.{line-step}
 
 -- A byte before the first of the lines, which is a line of its own if there is none.
 unfoldable pub before-lines : ℕ → List (List ℕ) → List (List ℕ)

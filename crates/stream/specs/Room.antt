@@ -3,8 +3,8 @@ use mathlib.Core.Path.{_≡_}
 use mathlib.Core.List.{List}
 use Prim.Native.Nat.{ℕ, _≤_}
 use lib.ListN.{length, take}
-use Rattle.script.specs.declared.Size.{Size}
-use Rattle.script.specs.Memory.{Fits, memory}
+use Rattle.memory.specs.declared.Size.{Size}
+use Rattle.memory.specs.Coded.{Fits, memory}
 use Rattle.stream.specs.declared.Progress.{Progress}
 use Rattle.stream.specs.Blocks.{Standing}
 

@@ -1,6 +1,6 @@
 // The script's input as it comes in, block by block, and the bytes that its lines print.
+use memory::Size;
 use prints::print_numbers;
-use script::Size;
 use script::run_line;
 ghost use mathlib.Core.Path.{_≡_};
 ghost use Prim.Native.Nat.{_+_, _*_, _≤_};

@@ -1,17 +1,20 @@
 // The timed calls on the two tables, of any content: each is refused by its number, or acts, ends with the pass and counts.
 use merges::merge_level;
-use stages::Answer;
+use refusals::Answer;
+use refusals::refusal_of;
+use refusals::refused;
 use stages::finish;
 use stages::held_all;
-use stages::refusal_of;
-use stages::refused;
 use stages::write;
 use writes::Record;
 ghost use mathlib.Core.Path.{_≡_};
-ghost use Rattle.model.specs.Steps.{put, delete, delete-range};
+ghost use Prim.Native.Nat.{ℕ};
+ghost use Rattle.lists.specs.All.{Exists};
+ghost use Rattle.model.specs.Steps.{Write, put, delete, delete-range};
 ghost use Rattle.model.specs.Calls.{written, flush, tick};
 ghost use Rattle.calls.specs.Calls.{call-tables};
-ghost use Rattle.stages.specs.Coded.{lent, called};
+ghost use Rattle.writes.specs.Records.{record-of};
+ghost use Rattle.refusals.specs.Coded.{lent, called};
 
 // The kinds of records.
 const PUT: u32 = 1;
@@ -24,11 +27,7 @@ const RANGE: u32 = 3;
 pub fn put(entries: &mut [u32], levels: &mut [u32], clock: u32, docket: u32, tally: u32) -> Answer
     ensures { λ r. ⌜ called (now (entries .exit)) (now (levels .exit)) r ≡ call-tables (lent (now (entries .entry)) (now (levels .entry))) (record { clock = clock; op = written (put docket tally) }) ⌝ }
 {
-    let refusal = refusal_of(entries, levels, clock, docket, docket);
-    if refusal != 0 {
-        return refused(refusal);
-    }
-    write(
+    write_record(
         entries,
         levels,
         clock,
@@ -45,11 +44,7 @@ pub fn put(entries: &mut [u32], levels: &mut [u32], clock: u32, docket: u32, tal
 pub fn delete(entries: &mut [u32], levels: &mut [u32], clock: u32, docket: u32) -> Answer
     ensures { λ r. ⌜ called (now (entries .exit)) (now (levels .exit)) r ≡ call-tables (lent (now (entries .entry)) (now (levels .entry))) (record { clock = clock; op = written (delete docket) }) ⌝ }
 {
-    let refusal = refusal_of(entries, levels, clock, docket, docket);
-    if refusal != 0 {
-        return refused(refusal);
-    }
-    write(
+    write_record(
         entries,
         levels,
         clock,
@@ -66,11 +61,7 @@ pub fn delete(entries: &mut [u32], levels: &mut [u32], clock: u32, docket: u32) 
 pub fn delete_range(entries: &mut [u32], levels: &mut [u32], clock: u32, lo: u32, hi: u32) -> Answer
     ensures { λ r. ⌜ called (now (entries .exit)) (now (levels .exit)) r ≡ call-tables (lent (now (entries .entry)) (now (levels .entry))) (record { clock = clock; op = written (delete-range lo hi) }) ⌝ }
 {
-    let refusal = refusal_of(entries, levels, clock, lo, hi);
-    if refusal != 0 {
-        return refused(refusal);
-    }
-    write(
+    write_record(
         entries,
         levels,
         clock,
@@ -81,6 +72,19 @@ pub fn delete_range(entries: &mut [u32], levels: &mut [u32], clock: u32, lo: u32
             tally: 0,
         },
     )
+}
+
+// A write that is turned away by its number, or carried out.
+fn write_record(entries: &mut [u32], levels: &mut [u32], clock: u32, w: Record) -> Answer
+    requires { ⌜ Exists (λ v. w ≡ record-of v) ⌝ }
+    ensures { λ r. ⌜ ((v : Write ℕ) → w ≡ record-of v
+        → called (now (entries .exit)) (now (levels .exit)) r ≡ call-tables (lent (now (entries .entry)) (now (levels .entry))) (record { clock = clock; op = written v })) ⌝ }
+{
+    let refusal = refusal_of(entries, levels, clock, w.lo, w.hi);
+    if refusal != 0 {
+        return refused(refusal);
+    }
+    write(entries, levels, clock, w)
 }
 
 // Merges the buffer, full or not, and does the pass.

@@ -12,7 +12,7 @@ use Rattle.tables.specs.Placed.{Cell, head}
 use Rattle.chains.specs.Cells.{cell-at, cell-key, cell-before}
 use Rattle.chains.specs.Held.{Held}
 use Rattle.chains.specs.Order.{CellsOrdered}
-use Rattle.chains.specs.Links.{stamped}
+use Rattle.links.specs.Links.{stamped}
 use Rattle.chains.specs.Sifting.{Sifting, sift-of}
 use Rattle.chains.specs.Splicing.{Chains}
 use Rattle.chains.proofs.Laws.{restamped}

@@ -1,7 +1,7 @@
 // Ranges of two levels on the way to one chain: of two alike the upper one stays, with the later stamp.
 use chains::Cursor;
-use chains::restamp;
 use chains::sift;
+use links::restamp;
 use rows::next_of;
 use rows::order_key;
 ghost use mathlib.Core.Logic.{_≢_};

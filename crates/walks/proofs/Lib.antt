@@ -1,5 +1,4 @@
--- The laws of walks and of one level.
+-- The laws of walks.
 pub mod Chains
 pub mod Unmarked
 pub mod Walks
-pub mod Levels

@@ -1,4 +1,3 @@
--- What a walk and a level compute, in the order of the code.
+-- What a walk computes, in the order of the code.
 pub mod Slots
 pub mod Walks
-pub mod Levels

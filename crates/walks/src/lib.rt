@@ -1,4 +1,4 @@
-// One chain followed with a mark for each slot that it passes, and one level: its two chains and its numbers.
+// One chain followed with a mark for each slot that it passes.
 use forms::Class;
 use forms::row_fits;
 use marks::is_marked;
@@ -13,7 +13,6 @@ ghost use Rattle.tables.specs.Words.{slots-of};
 ghost use Rattle.tables.specs.Sound.{chain-from};
 ghost use Rattle.walks.specs.Slots.{Entries, slot-fits};
 ghost use Rattle.walks.specs.Walks.{Went};
-ghost use Rattle.walks.specs.Levels.{numbers-fit, Leveled};
 
 // Whether a walk found only what may stand there, and how many slots it passed.
 pub struct Walked {
@@ -58,52 +57,4 @@ pub fn walk(class: Class, e: &[u32], head: usize, owed: u32, marks: &mut [u8]) -
         at = next_of(e, at);
     }
     Walked { fits: true, count }
-}
-
-// A level's number of records and its owed.
-fn numbers_fit(e: &[u32], l: &[u32], i: usize, count: usize) -> bool
-    requires { ⌜ Entries (now e) ⌝ }
-    requires { ⌜ 4 * (i + 1) + 3 < length (now l) ⌝ }
-    ensures { λ r. ⌜ r ≡ numbers-fit (now (e .entry)) (now (l .entry)) i count ⌝ }
-{
-    let row = 4 * (i + 1);
-    if l[row + 2] as usize != count {
-        return false;
-    }
-    let owed = l[row + 3];
-    if e[1] < owed {
-        return false;
-    }
-    if count != 0 {
-        return true;
-    }
-    owed == 0
-}
-
-// A level's two chains, then its numbers, which need what the chains hold.
-pub fn level(e: &[u32], l: &[u32], i: usize, marks: &mut [u8]) -> Walked
-    requires { ⌜ Entries (now e) ⌝ }
-    requires { ⌜ slots-of (now e) < 8 * length (now marks) ⌝ }
-    requires { ⌜ 4 * (i + 1) + 3 < length (now l) ⌝ }
-    ensures { λ r. ⌜ Leveled (now (e .entry)) (now (l .entry)) i (now (marks .entry)) (now (marks .exit)) (r .fits) (r .count) ⌝ }
-{
-    let row = 4 * (i + 1);
-    let owed = l[row + 3];
-    let points = walk(Class::Points, e, l[row] as usize, owed, marks);
-    if !points.fits {
-        return Walked {
-            fits: false,
-            count: 0,
-        };
-    }
-    let ranges = walk(Class::Ranges, e, l[row + 1] as usize, owed, marks);
-    if !ranges.fits {
-        return Walked {
-            fits: false,
-            count: 0,
-        };
-    }
-    let count = points.count + ranges.count;
-    let fits = numbers_fit(e, l, i, count);
-    Walked { fits, count }
 }

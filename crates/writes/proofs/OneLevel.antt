@@ -16,9 +16,9 @@ use Rattle.chains.specs.Held.{Held}
 use Rattle.chains.specs.Sifting.{Chain, OneHeld}
 use Rattle.chains.proofs.Laws.{rearranged, swapped}
 use Rattle.join.specs.Joining.{level-of}
-use Rattle.join.specs.declared.Level as level-row
+use Rattle.level_rows.specs.declared.Level as level-row
 use Rattle.merges.specs.Laid.{Store, Laid, at-state}
-use Rattle.merges.specs.Rows.{level-at}
+use Rattle.level_rows.specs.Rows.{level-at}
 use Rattle.merges.proofs.LevelChains.{points-out, ranges-out, others-stay, level-in, weigh-out}
 use Rattle.merges.proofs.LevelTable.{row-words-set}
 use Rattle.merges.proofs.Pair.{read-level}

@@ -1,5 +1,2 @@
--- What a write leaves, in a slot, in the buffer and on level L.
+-- What a write puts into a slot.
 pub mod Records
-pub mod Taking
-pub mod Entering
-pub mod Acting

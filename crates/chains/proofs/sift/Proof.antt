@@ -6,8 +6,8 @@ use native.Mathlib.Omega.{arith}
 use borrow.Author.Tests.{not-true, not-false}
 use borrow.Author.Needs.{needs}
 use lib.ListN.{length}
-use Rattle.chains.specs.Links.{linked}
-use Rattle.chains.proofs.Links.{length-released}
+use Rattle.links.specs.Links.{linked}
+use Rattle.links.proofs.Links.{length-released}
 use Rattle.chains.proofs.Sieves.{cursor-fits, sift-at, sift-passes, sift-drops-first, sift-drops-after}
 use Rattle.chains.proofs.sift.Statement.{statement}
 use Rattle.chains.proofs.sift.Tie as tie

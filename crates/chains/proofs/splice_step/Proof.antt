@@ -6,8 +6,8 @@ use Prim.Native.Nat.{ℕ}
 use native.Mathlib.Omega.{arith}
 use borrow.Author.Needs.{needs}
 use lib.ListN.{length}
-use Rattle.chains.specs.Links.{linked}
-use Rattle.chains.proofs.Links.{length-linked}
+use Rattle.links.specs.Links.{linked}
+use Rattle.links.proofs.Links.{length-linked}
 use Rattle.chains.proofs.Splices.{pair-fits, Comes, splice-at, splice-passes, splice-first, splice-after}
 use Rattle.chains.proofs.splice_step.Statement.{statement}
 use Rattle.chains.proofs.splice_step.Tie as tie

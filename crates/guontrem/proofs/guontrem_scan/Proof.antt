@@ -40,8 +40,8 @@ use denote.Triple.Walked.{says, Stays, stay-dropped, gave-slice, walkOf, Walks, 
 use Rattle.scan.specs.declared.Row.{Row}
 use Rattle.scan.specs.declared.Scanned.{Scanned}
 use Rattle.scan.specs.Scan.{Outcome, scan-tables}
-use Rattle.guontrem.specs.Packed.{packed-scan}
-use Rattle.guontrem.proofs.Packing.{Packable, packable, packs}
+use Rattle.packing.specs.Packed.{packed-scan}
+use Rattle.guontrem.proofs.Rooms.{Packable, packable, packs}
 use Rattle.scan.proofs.Row as T
 use Rattle.scan.proofs.Scanned as C
 use Rattle.scan.proofs.Scanned.Laws as C′
@@ -49,10 +49,10 @@ use Rattle.scan.proofs.scan as scan
 use Rattle.scan.proofs.scan.Symbol as scan-def
 use Rattle.scan.proofs.scan.Symbol.{name as #scan·scan}
 use Rattle.scan.proofs.scan.Met as scan-thm
-use Rattle.guontrem.proofs.pack_scan as pack
-use Rattle.guontrem.proofs.pack_scan.Symbol as pack-def
-use Rattle.guontrem.proofs.pack_scan.Symbol.{name as #guontrem·pack-scan}
-use Rattle.guontrem.proofs.pack_scan.Met as pack-thm
+use Rattle.packing.proofs.pack_scan as pack
+use Rattle.packing.proofs.pack_scan.Symbol as pack-def
+use Rattle.packing.proofs.pack_scan.Symbol.{name as #packing·pack-scan}
+use Rattle.packing.proofs.pack_scan.Met as pack-thm
 use Rattle.guontrem.proofs.guontrem_scan.Key.{name as #guontrem·guontrem-scan}
 use Rattle.guontrem.proofs.guontrem_scan as f
 use Rattle.guontrem.proofs.guontrem_scan.Statement as stated
@@ -136,7 +136,7 @@ module _ {M : Type 1} (𝓤 : URA M) (H : Heap 𝓤) (A : Atoms 𝓤) (W : Given
       nothing ! $ move ! (1 ∷ 0 ∷ []) $ fjoin ! $ nothing ! $ fjoin ! $ nothing ! $ fjoin ! $ nothing ! $ fjoin ! $ nothing ! $ fjoin ! $ frame ! $
       owned ! u64 (Is u64) (uint-makes 𝓤 H A W w64) n _ is-n $ done !
 
-  module _ (𝓣 : Tables 𝓤 H) (known-scan : Triple 𝓤 (𝓣 .C #scan·scan) (Scan 𝓤 H A at-mem run)) (known-pack : Triple 𝓤 (𝓣 .C #guontrem·pack-scan) (Pack 𝓤 H A at-mem run)) where
+  module _ (𝓣 : Tables 𝓤 H) (known-scan : Triple 𝓤 (𝓣 .C #scan·scan) (Scan 𝓤 H A at-mem run)) (known-pack : Triple 𝓤 (𝓣 .C #packing·pack-scan) (Pack 𝓤 H A at-mem run)) where
     walk : Room u32 (length (e .now)) → Room u32 (length (l .now)) → lo < 2 ^ 32 → hi < 2 ^ 32 → Room T.the-row (length ys)
         → ent 𝓤 (onEntry 𝓤 H A f.signature (κ₁, (κ₂, (κ₃, tt))) (q₁, (q₂, (q₃, tt))) args vals) (WpFn 𝓤 H (𝓣 .C) (𝓣 .Λ) code.function (table-at e ∷ table-at l ∷ vint w32 lo ∷ vint w32 hi ∷ rows-at ∷ []) Post)
     walk room₁ room₂ low high room₅ =
@@ -172,7 +172,7 @@ module _ {M : Type 1} (𝓤 : URA M) (H : Heap 𝓤) (A : Atoms 𝓤) (W : Given
         by ! (exits a (zs .1 .1 .1 .1 .0) is len n v is-n n-is))))))))))))))))))))
 
 module _ {M : Type 1} (𝓤 : URA M) (H : Heap 𝓤) (A : Atoms 𝓤) (W : Given 𝓤 H A) (at-mem : Memory → SProp 𝓤) (run : Routine → Fun 𝓤) (𝓣 : Tables 𝓤 H)
-    (known-scan : Triple 𝓤 (𝓣 .C #scan·scan) (Scan 𝓤 H A at-mem run)) (known-pack : Triple 𝓤 (𝓣 .C #guontrem·pack-scan) (Pack 𝓤 H A at-mem run)) where
+    (known-scan : Triple 𝓤 (𝓣 .C #scan·scan) (Scan 𝓤 H A at-mem run)) (known-pack : Triple 𝓤 (𝓣 .C #packing·pack-scan) (Pack 𝓤 H A at-mem run)) where
   guontrem-scan-walks : Walks 𝓤 H A f.ended stayed (WpFn 𝓤 H (𝓣 .C) (𝓣 .Λ) code.function) (f.clauses 𝓤 H A at-mem run)
   guontrem-scan-walks = walked 𝓤 H A f.ended stayed (f.clauses 𝓤 H A at-mem run) (WpFn 𝓤 H (𝓣 .C) (𝓣 .Λ) code.function)
       (λ κs. (slice-vals, (slice-vals, (uint-vals w32, (uint-vals w32, (slice-vals, tt))))))
@@ -200,4 +200,4 @@ guontrem-scan-spec 𝓤 H 𝓜 𝓖 𝓡 =
     (tables 𝓤 H 𝓜 𝓡 code.env .C) (tables 𝓤 H 𝓜 𝓡 code.env .Λ) #guontrem·guontrem-scan code.function (code.unfolded 𝓤 H 𝓜 𝓡)
     (guontrem-scan-meets 𝓤 H (𝓖 .A) (givenOf 𝓤 H 𝓜 𝓖) (𝓜 .mem) (𝓡 .run) (tablesOf 𝓤 H 𝓜 (tables 𝓤 H 𝓜 𝓡 code.env))
     (cited 𝓤 H (Scan 𝓤 H (𝓖 .A) (𝓜 .mem) (𝓡 .run)) 𝓜 𝓡 code.env #scan·scan scan-def.routine code.calls-scan·scan (scan-thm.met 𝓤 H 𝓜 𝓖 𝓡))
-    (cited 𝓤 H (Pack 𝓤 H (𝓖 .A) (𝓜 .mem) (𝓡 .run)) 𝓜 𝓡 code.env #guontrem·pack-scan pack-def.routine code.calls-guontrem·pack-scan (pack-thm.met 𝓤 H 𝓜 𝓖 𝓡)))
+    (cited 𝓤 H (Pack 𝓤 H (𝓖 .A) (𝓜 .mem) (𝓡 .run)) 𝓜 𝓡 code.env #packing·pack-scan pack-def.routine code.calls-packing·pack-scan (pack-thm.met 𝓤 H 𝓜 𝓖 𝓡)))

@@ -7,7 +7,7 @@ use native.Mathlib.Omega.{arith}
 use lib.ListN.{length, getD}
 use Rattle.tables.specs.Words.{level-row}
 use Rattle.merges.proofs.Store.{laid-length, laid-allowed, held-read}
-use Rattle.pass.proofs.Due.{laid-buffer-due}
+use Rattle.due.proofs.Due.{laid-buffer-due}
 use Rattle.pass.proofs.Passing.{buffer-stays, buffer-merged}
 use Rattle.pass.proofs.pass_buffer.Statement.{statement}
 use Rattle.pass.proofs.pass_buffer.Tie as tie

@@ -8,7 +8,7 @@ use Rattle.model.specs.Records.{level}
 use Rattle.model.specs.Steps.{due}
 use Rattle.merges.specs.Laid.{Store, Laid}
 use Rattle.merges.proofs.Store.{laid-length}
-use Rattle.pass.proofs.Due.{laid-due, laid-inner, laid-owed}
+use Rattle.due.proofs.Due.{laid-due, laid-inner, laid-owed}
 use Rattle.pass.proofs.Passing.{level-stays, level-merged}
 use Rattle.pass.proofs.pass_level.Statement.{statement}
 use Rattle.pass.proofs.pass_level.Tie as tie

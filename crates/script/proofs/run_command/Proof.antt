@@ -2,9 +2,10 @@
 use mathlib.Core.Path.{_≡_, sym, ap, _∙_}
 use borrow.Author.Needs.{needs}
 use Rattle.lines.specs.declared.Command.{Command}
-use Rattle.script.specs.Script.{Memory, Stepped, carried-out, command-step}
-use Rattle.script.specs.Memory.{memory, stepped}
-use Rattle.script.proofs.Turns.{carried, early}
+use Rattle.memory.specs.Memory.{Memory, Stepped}
+use Rattle.script.specs.Script.{carried-out, command-step}
+use Rattle.memory.specs.Coded.{memory, stepped}
+use Rattle.script.proofs.Commands.{carried, early}
 use Rattle.script.proofs.run_command.Statement.{statement}
 use Rattle.script.proofs.run_command.Tie as tie
 

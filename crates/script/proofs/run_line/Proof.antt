@@ -5,10 +5,11 @@ use Prim.Native.Nat.{ℕ}
 use borrow.Author.Needs.{needs}
 use lib.ListN.{length}
 use Rattle.lines.specs.Lines.{line-of}
-use Rattle.script.specs.declared.Turn.{Turn}
-use Rattle.script.specs.Script.{Memory, line-step}
-use Rattle.script.specs.Memory.{Fits, memory, stepped}
-use Rattle.script.proofs.Turns.{unreadable, commanded}
+use Rattle.memory.specs.declared.Turn.{Turn}
+use Rattle.memory.specs.Memory.{Memory}
+use Rattle.script.specs.Script.{line-step}
+use Rattle.memory.specs.Coded.{Fits, memory, stepped}
+use Rattle.script.proofs.Commands.{unreadable, commanded}
 use Rattle.script.proofs.Sizes.{still-fits}
 use Rattle.script.proofs.run_line.Statement.{statement}
 use Rattle.script.proofs.run_line.Tie as tie

@@ -2,7 +2,7 @@
 use Prim.Native.Nat.{ℕ, _-_, _≤_}
 use native.Mathlib.Omega.{arith}
 use Rattle.model.specs.Records.{State}
-use Rattle.stages.specs.Coded.{RowsAre}
+use Rattle.stages.specs.Ending.{RowsAre}
 use Rattle.stages.proofs.Laying.{Adds, adds-nothing, adds-one, adds-all, rows-length}
 use Rattle.stages.proofs.held_all.Statement.{statement}
 use Rattle.stages.proofs.held_all.Tie as tie

@@ -3,7 +3,7 @@ use mathlib.Core.Path.{refl, sym, _∙_}
 use native.Mathlib.Omega.{arith}
 use borrow.Author.Needs.{needs}
 use Rattle.model.specs.Calls.{flush}
-use Rattle.stages.proofs.Begun.{begun, begun-laid, away}
+use Rattle.refusals.proofs.Begun.{begun, begun-laid, away}
 use Rattle.stages.proofs.Laying.{laid-rows}
 use Rattle.stages.proofs.Finishing.{ending, ends, flushes, one-few, deep}
 use Rattle.timed.proofs.flush.Statement.{statement}

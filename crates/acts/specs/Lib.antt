@@ -1,0 +1,2 @@
+-- What a write leaves on level L.
+pub mod Acting

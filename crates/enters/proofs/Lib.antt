@@ -1,0 +1,5 @@
+-- What an entry leaves of the chains and the levels.
+pub mod Takes
+pub mod Entries
+pub mod Entered
+pub mod LaidEntries

@@ -1,0 +1,3 @@
+-- What an entry leaves, in a slot and in the buffer.
+pub mod Taking
+pub mod Entering

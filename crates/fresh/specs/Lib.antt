@@ -1,0 +1,2 @@
+-- The words of a fresh store.
+pub mod Fresh

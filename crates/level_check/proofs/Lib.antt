@@ -1,0 +1,2 @@
+-- The laws of one level.
+pub mod Levels

@@ -1,0 +1,2 @@
+-- What a changed slot leaves of the other rows.
+pub mod Links

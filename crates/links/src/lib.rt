@@ -1,0 +1,43 @@
+// One slot of a chain changed: linked to another slot, wiped and freed, or stamped.
+use rows::set_row;
+use rows::stamp_of;
+ghost use mathlib.Core.Path.{_≡_};
+ghost use Prim.Native.Nat.{_+_, _*_, _<_, max};
+ghost use lib.ListN.{length};
+ghost use Rattle.tables.specs.Words.{stamp-of};
+ghost use Rattle.links.specs.Links.{linked, released, stamped};
+
+// Slots are chained, and kinds stacked on them, at this base.
+const BASE: u32 = 65536;
+
+// The slot's stamp becomes the later of its own and another's.
+pub fn restamp(e: &mut [u32], slot: usize, other: usize)
+    requires { ⌜ 4 * slot + 3 < length (now e) ⌝ }
+    requires { ⌜ 4 * other + 3 < length (now e) ⌝ }
+    ensures { λ _. ⌜ now (e .exit) ≡ stamped (now (e .entry)) slot (max (stamp-of (now (e .entry)) slot) (stamp-of (now (e .entry)) other)) ⌝ }
+{
+    let stamp = stamp_of(e, other);
+    if e[4 * slot + 3] < stamp {
+        e[4 * slot + 3] = stamp;
+    }
+}
+
+// The slot's next becomes another.
+pub fn set_next(e: &mut [u32], slot: usize, next: usize)
+    requires { ⌜ 4 * slot + 3 < length (now e) ⌝ }
+    requires { ⌜ next < 65536 ⌝ }
+    ensures { λ _. ⌜ now (e .exit) ≡ linked (now (e .entry)) slot next ⌝ }
+{
+    e[4 * slot] = e[4 * slot] / BASE * BASE + next as u32;
+}
+
+// A slot wiped, so that nothing of its record is left, and made the first of the free ones.
+pub fn release(e: &mut [u32], slot: usize)
+    requires { ⌜ 4 * slot + 3 < length (now e) ⌝ }
+    requires { ⌜ slot < 65536 ⌝ }
+    ensures { λ _. ⌜ now (e .exit) ≡ released (now (e .entry)) slot ⌝ }
+{
+    let first = e[0];
+    set_row(e, slot, first, 0, 0, 0);
+    e[0] = slot as u32;
+}

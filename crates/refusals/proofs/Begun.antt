@@ -1,0 +1,155 @@
+-- Sound tables at the start of a call: the store that they hold, and the calls that are refused at once.
+use mathlib.Core.Path.{_≡_, refl, sym, ap, _∙_}
+use mathlib.Core.Logic.{_≢_}
+use mathlib.Core.Bool.{Bool, true, false, cond, _||_}
+use mathlib.Core.List.{List}
+use Prim.Native.Nat.{ℕ, zero, suc, _<_, _≤_}
+use native.Mathlib.Omega.{arith}
+use lib.Dec.{eqb, ltb}
+use lib.ListN.{length}
+use borrow.Author.Tests.{eq-eqb, ne-eqb, eqb-false, ltb-false, lt-ltb, le-ltb}
+use Rattle.lists.proofs.Bools.{or-false-left, or-false-right, or-false}
+use Rattle.model.specs.Records.{State}
+use Rattle.model.specs.Calls.{Op, Call, Answer, refusing, bad-docket, bad-clock, refused, step}
+use Rattle.tables.specs.Words.{slots-of, clock-of}
+use Rattle.tables.specs.Sound.{table-refusal}
+use Rattle.tables.specs.Placed.{read-state, level-words}
+use Rattle.tables.specs.Formed.{Formed}
+use Rattle.tables.proofs.LevelSound.{Fits32}
+use Rattle.tables.proofs.Back.{formed-holds}
+use Rattle.tables.proofs.FormedSound.{sound-words}
+use Rattle.tables.proofs.SoundWords.{sound-facts}
+use Rattle.tables.proofs.FormedSteps.{timed-formed}
+use Rattle.calls.specs.Calls.{Tables, words, call-tables}
+use Rattle.merges.specs.Laid.{Store, Laid}
+use Rattle.refusals.specs.declared.Answer as coded
+use Rattle.refusals.specs.Coded.{answer-of, lent, called, call-refusal, Began}
+
+-- The store in the tables, at the time of the call.
+abbrev pub store : List ℕ → List ℕ → ℕ → Store
+store e l t = record { slots = slots-of e; time = t; state = read-state e l }
+
+module _ (e l : List ℕ) (t : ℕ) (op : Op ℕ) (b : Began e l t op) where
+  from-1 : t ≢ 0
+  from-1 = eqb-false t 0 (or-false-left (eqb t 0) (ltb t (clock-of e)) (b .time))
+
+  pub begun-low : 1 ≤ t
+  begun-low = let n = from-1 in omega arith
+
+  not-before : clock-of e ≤ t
+  not-before = ltb-false t (clock-of e) (or-false-right (eqb t 0) (ltb t (clock-of e)) (b .time))
+
+  pub begun-time : bad-clock t (read-state e l .clock) ≡ false
+  unfolding read-state
+  begun-time = b .time
+
+  pub begun-formed : Formed (slots-of e) (read-state e l)
+  begun-formed = sound-words e l (b .fits) (b .sound) .formed
+
+  pub begun-laid : Laid (store e l t) e l
+  unfolding read-state
+  begun-laid = record {
+    formed = timed-formed (slots-of e) t (read-state e l) not-before begun-formed;
+    entries = rw (sym (sound-words e l (b .fits) (b .sound) .entries)) at (formed-holds (slots-of e) (read-state e l) begun-formed);
+    levels = sound-words e l (b .fits) (b .sound) .levels;
+  }
+
+-- Sound tables are the words of what they read as.
+module _ (e l : List ℕ) (fits : Fits32 e) (sound : table-refusal e l ≡ 0) where
+  written-again : words (slots-of e) (read-state e l) ≡ lent e l
+  written-again =
+      let f = sound-words e l fits sound in
+      ap (λ (x : List ℕ). record { entries = x; levels = level-words (read-state e l) }) (sym (f .entries))
+      ∙ ap (λ (y : List ℕ). record { entries = e; levels = y }) (sym (f .levels))
+
+  -- A refusal of the step leaves the words as they are.
+  pub kept-words : (c : Call ℕ) (n : ℕ) → step (read-state e l) c ≡ refused n (read-state e l) → call-tables (lent e l) c ≡ record { tables = lent e l; answer = refusing n }
+  unfolding call-tables
+  kept-words c n q = rw (sound, q) (ap (λ (w : Tables). record { tables = w; answer = refusing n }) written-again)
+
+-- The number that the code's tests give, one way out after the other.
+module _ (e l : List ℕ) (t lo hi r : ℕ) (tables : r ≡ table-refusal e l) where
+  pub refused-tables : r ≢ 0 → r ≡ call-refusal e l t lo hi
+  refused-tables h = rw (← tables, ne-eqb r 0 h)
+
+  module _ (z : r ≡ 0) where
+    zero-tables : table-refusal e l ≡ 0
+    zero-tables = sym tables ∙ z
+
+    pub refused-docket : 65535 < hi → 4 ≡ call-refusal e l t lo hi
+    refused-docket h = rw (zero-tables, lt-ltb 65535 hi h)
+
+    module _ (d : hi ≤ 65535) where
+      pub refused-crossed : hi < lo → 4 ≡ call-refusal e l t lo hi
+      refused-crossed h = rw (zero-tables, le-ltb 65535 hi d, lt-ltb hi lo h)
+
+      module _ (x : lo ≤ hi) where
+        pub refused-zero : t ≡ 0 → 5 ≡ call-refusal e l t lo hi
+        refused-zero h = rw (zero-tables, le-ltb 65535 hi d, le-ltb hi lo x, eq-eqb t 0 h)
+
+        module _ (n : t ≢ 0) where
+          pub refused-early : t < clock-of e → 5 ≡ call-refusal e l t lo hi
+          refused-early h = rw (zero-tables, le-ltb 65535 hi d, le-ltb hi lo x, ne-eqb t 0 n, lt-ltb t (clock-of e) h)
+
+          pub not-refused : clock-of e ≤ t → 0 ≡ call-refusal e l t lo hi
+          not-refused h = rw (zero-tables, le-ltb 65535 hi d, le-ltb hi lo x, ne-eqb t 0 n, le-ltb t (clock-of e) h)
+
+-- Sound tables have a slot 0.
+pub sound-slot-zero : (e l : List ℕ) → table-refusal e l ≡ 0 → 3 < length e
+sound-slot-zero e l h = let f = sound-facts e l h in omega (arith, f .length-entries, f .few)
+
+module _ (e l : List ℕ) (t lo hi : ℕ) (op : Op ℕ) (fits : Fits32 e) (dockets : bad-docket op ≡ ltb 65535 hi || ltb hi lo) where
+  abbrev call : Call ℕ
+  call = record { clock = t; op = op }
+
+  -- The three tests of a call's refusals, in their order.
+  abbrev number : ℕ → Bool → Bool → ℕ
+  number tables docket clock = cond (eqb tables 0) (cond docket 4 (cond clock 5 0)) tables
+
+  -- Where none of 1 to 5 is met the call begins.
+  pub begun : call-refusal e l t lo hi ≡ 0 → Began e l t op
+  begun = go (table-refusal e l) (ltb 65535 hi || ltb hi lo) (bad-clock t (clock-of e)) refl refl refl
+    where
+      some : {a : ℕ} → suc a ≢ 0
+      some h = absurd (omega arith)
+
+      go : (a : ℕ) (d b : Bool) → table-refusal e l ≡ a → ltb 65535 hi || ltb hi lo ≡ d → bad-clock t (clock-of e) ≡ b → number a d b ≡ 0 → Began e l t op
+      go zero false false p q r h = record { sound = p; fits = fits; dockets = dockets ∙ q; time = r }
+      go zero true b p q r h = absurd (omega arith)
+      go zero false true p q r h = absurd (omega arith)
+      go (suc a) d b p q r h = absurd (some (rw (ne-eqb (suc a) 0 (omega arith)) at h))
+
+  steps-4 : (p : State ℕ ℕ) → bad-docket op ≡ true → step p call ≡ refused 4 p
+  unfolding step
+  steps-4 p d = rw d
+
+  steps-5 : (p : State ℕ ℕ) → bad-docket op ≡ false → bad-clock t (p .clock) ≡ true → step p call ≡ refused 5 p
+  unfolding step
+  steps-5 p d b = rw (d, b)
+
+  read-clock : read-state e l .clock ≡ clock-of e
+  unfolding read-state
+  read-clock = refl
+
+  unsound : (a : ℕ) → table-refusal e l ≡ suc a → call-tables (lent e l) call ≡ record { tables = lent e l; answer = refusing (suc a) }
+  unfolding call-tables
+  unsound a q = rw (q, ne-eqb (suc a) 0 (omega arith))
+
+  -- The first of them that is met is what the call answers, and no word changes.
+  pub turned-away : call-refusal e l t lo hi ≢ 0 → call-tables (lent e l) call ≡ record { tables = lent e l; answer = refusing (call-refusal e l t lo hi) }
+  turned-away = go (table-refusal e l) (ltb 65535 hi || ltb hi lo) (bad-clock t (clock-of e)) refl refl refl
+    where
+      go : (a : ℕ) (d b : Bool) → table-refusal e l ≡ a → ltb 65535 hi || ltb hi lo ≡ d → bad-clock t (clock-of e) ≡ b
+          → number a d b ≢ 0 → call-tables (lent e l) call ≡ record { tables = lent e l; answer = refusing (number a d b) }
+      go zero true b p q r h = kept-words e l fits p call 4 (steps-4 (read-state e l) (dockets ∙ q))
+      go zero false true p q r h = kept-words e l fits p call 5 (steps-5 (read-state e l) (dockets ∙ q) (ap (bad-clock t) read-clock ∙ r))
+      go zero false false p q r h = absurd (h refl)
+      go (suc a) d b p q r h = rw (ne-eqb (suc a) 0 (omega arith)) (unsound a p)
+
+  -- A call that is turned away by the number that the code found.
+  pub away : (r : coded.Answer) (n : ℕ) → n ≡ call-refusal e l t lo hi → n ≢ 0 → answer-of r ≡ refusing n → called e l r ≡ call-tables (lent e l) call
+  away r n q h a = rw a (ap (λ k. record { tables = lent e l; answer = refusing k }) q ∙ sym (turned-away (λ z. h (q ∙ z))))
+
+-- A call of one docket, or of none, has no lo above its hi.
+pub one-docket : (k : ℕ) → ltb 65535 k ≡ ltb 65535 k || ltb k k
+one-docket k = rw (le-ltb k k (omega arith)) (sym (or-false (ltb 65535 k)))

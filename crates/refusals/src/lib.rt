@@ -1,0 +1,54 @@
+// What turns a timed call away at once, and the answer that says so.
+use soundness::table_refusal;
+ghost use mathlib.Core.Path.{_≡_};
+ghost use Rattle.model.specs.Calls.{refusing};
+ghost use Rattle.refusals.specs.Coded.{answer-of, call-refusal};
+
+// The largest docket.
+const LAST_DOCKET: u32 = 65535;
+
+// The refusals of document 01.
+const BAD_DOCKET: u32 = 4;
+
+const BAD_CLOCK: u32 = 5;
+
+// A refusal's number with zeros, or 0 with the merges and the records that have gone.
+pub struct Answer {
+    pub refusal: u32,
+    pub merges: u32,
+    pub purged: u32,
+}
+
+// The first of the refusals 1 to 5 that the call meets, or 0.
+pub fn refusal_of(e: &[u32], l: &[u32], clock: u32, lo: u32, hi: u32) -> u32
+    ensures { λ r. ⌜ r ≡ call-refusal (now (e .entry)) (now (l .entry)) clock lo hi ⌝ }
+{
+    let refusal = table_refusal(e, l);
+    if refusal != 0 {
+        return refusal;
+    }
+    if LAST_DOCKET < hi {
+        return BAD_DOCKET;
+    }
+    if hi < lo {
+        return BAD_DOCKET;
+    }
+    if clock == 0 {
+        return BAD_CLOCK;
+    }
+    if clock < e[1] {
+        return BAD_CLOCK;
+    }
+    0
+}
+
+// A refusal gives its number and zeros.
+pub fn refused(refusal: u32) -> Answer
+    ensures { λ r. ⌜ answer-of r ≡ refusing refusal ⌝ }
+{
+    Answer {
+        refusal: refusal,
+        merges: 0,
+        purged: 0,
+    }
+}

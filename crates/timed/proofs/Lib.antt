@@ -1,0 +1,2 @@
+-- What the code asks of a write's dockets.
+pub mod Dockets
