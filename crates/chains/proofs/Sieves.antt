@@ -2,7 +2,7 @@
 use mathlib.Core.Path.{_≡_, refl, sym, ap, subst, _∙_}
 use mathlib.Core.Logic.{_≢_}
 use mathlib.Core.Bool.{Bool, true, false, not}
-use mathlib.Core.List.{List, [], _∷_, _++_, map, append-assoc}
+use mathlib.Core.List.{List, [], _∷_, _++_, map, append-assoc, append-nil}
 use Prim.Native.Nat.{ℕ, _+_, _<_, _≤_}
 use native.Mathlib.Omega.{arith}
 use lib.ListN.{length, drop}
@@ -210,6 +210,8 @@ module _ (t : Cell → Bool) (g : Chain) (e : List ℕ) where
   ends m done [] free w z = record {
     held = rw (← w .keeps, ← w .frees) (w .held);
     head-is = w .head-is ∙ ap head (w .keeps);
+    prior-is = w .prior-is ∙ ap last-slot (sym (append-nil done) ∙ w .keeps);
+    at-is = z;
     counts = omega (arith, w .counts);
   }
 

@@ -59,10 +59,12 @@ pub record OneHeld (g : Chain) (e : List ℕ) (first : ℕ) : Type 0 where
   pub held : Held (g .slots) (g .clock) (g .free) (g .cells ∷ g .others) e
   pub head-is : first ≡ head (g .cells)
 
--- The cells that pass the test have gone from the chain, each to the front of the free chain.
+-- The cells that pass the test have gone from the chain, each to the front of the free chain; the cursor stands past its last cell.
 pub record Sifted (test : Cell → Bool) (g : Chain) (e : List ℕ) (m : Cursor) : Type 0 where
   pub held : Held (g .slots) (g .clock) (release (cell-slots (select test (g .cells))) (g .free)) (reject test (g .cells) ∷ g .others) e
   pub head-is : m .head ≡ head (reject test (g .cells))
+  pub prior-is : m .prior ≡ last-slot (reject test (g .cells))
+  pub at-is : m .at ≡ 0
   pub counts : m .gone ≡ length (select test (g .cells))
 
 -- The sieve that a test is for a chain.

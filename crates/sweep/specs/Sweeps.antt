@@ -1,10 +1,10 @@
 -- A sweep over the levels: what it still has to come, and the rows of the live dockets among it.
 use mathlib.Core.Path.{_≡_}
 use mathlib.Core.Logic.{_≢_}
-use mathlib.Core.Bool.{Bool, true, cond}
+use mathlib.Core.Bool.{Bool, true, false, cond}
 use mathlib.Core.List.{List, [], _∷_}
 use Prim.Native.Nat.{ℕ, _-_, _<_, _≤_}
-use lib.ListN.{getD, set}
+use lib.ListN.{getD, set, replicate}
 use Rattle.model.specs.Lookup.{Row, lookup, live}
 use Rattle.model.specs.Records.{Level}
 use Rattle.cursors.specs.Cursors.{coming, next-lo, least-lo, Ready}
@@ -47,6 +47,26 @@ regrouped m points ranges = record { points = points; ranges = ranges; levels = 
 -- The same cursors; the sweep is on its way, or has come to a live docket or to none.
 abbrev pub told : Sweep → Bool → Bool → ℕ → ℕ → ℕ → Sweep
 told m going alive key value stamp = record { points = m .points; ranges = m .ranges; levels = m .levels; level = m .level; slot = m .slot; bound = m .bound; second = m .second; waiting = m .waiting; reach = m .reach; hi = m .hi; going = going; live = alive; key = key; value = value; stamp = stamp }
+
+-- A sweep that has come to its end.
+abbrev pub over : Sweep
+over = record {
+  points = replicate 7 0;
+  ranges = replicate 7 0;
+  levels = 0;
+  level = 0;
+  slot = 0;
+  bound = 0;
+  second = 1;
+  waiting = 0;
+  reach = 0;
+  hi = 0;
+  going = false;
+  live = false;
+  key = 0;
+  value = 0;
+  stamp = 0;
+}
 
 -- The slot's key is the least to come, and the slot stands in its place among the cursors.
 pub record Foremost (e : List ℕ) (m : Sweep) : Type 0 where

@@ -18,7 +18,7 @@ ghost use Rattle.model.specs.Lookup.{lookup, live};
 ghost use Rattle.tables.specs.Placed.{read-state};
 ghost use Rattle.lookup.specs.Readable.{Readable};
 ghost use Rattle.cursors.specs.Cursors.{next-lo};
-ghost use Rattle.sweep.specs.Sweeps.{heads, swapped, regrouped, told, Sweeping, Foremost, Stepped, rest, rows-from};
+ghost use Rattle.sweep.specs.Sweeps.{heads, swapped, regrouped, told, over, Sweeping, Foremost, Stepped, rest, rows-from};
 
 // The kind of a put.
 const PUT: u32 = 1;
@@ -83,7 +83,7 @@ pub fn begin(e: &[u32], l: &[u32], lo: u32, hi: u32) -> Sweep
 
 // A sweep that has come to its end.
 pub fn ended() -> Sweep
-    ensures { λ r. ⌜ r .live ≡ false ⌝ }
+    ensures { λ r. ⌜ r ≡ over ⌝ }
 {
     Sweep {
         points: [0; 7],

@@ -37,5 +37,7 @@ uniting-ends g e m z u =
     record {
       held = rw (← upper≡) (sifted .held);
       head-is = sifted .head-is;
+      prior-is = sifted .prior-is;
+      at-is = z;
       counts = sifted .counts;
     }

@@ -11,7 +11,7 @@ use Rattle.model.specs.Merge.{release}
 use Rattle.tables.specs.Sound.{chain-from}
 use Rattle.tables.specs.Placed.{Cell, head}
 use Rattle.tables.proofs.Cells.{cell-slots}
-use Rattle.chains.specs.Cells.{cell-before}
+use Rattle.chains.specs.Cells.{cell-before, last-slot}
 use Rattle.chains.specs.Order.{CellsOrdered}
 use Rattle.chains.specs.Held.{Held}
 use Rattle.chains.specs.Sifting.{Chain, Sifting, sift-of, left-at}
@@ -43,6 +43,8 @@ pub record United (g : Chains) (e : List ℕ) (m : Cursor) : Type 0 where
   pub held : Held (g .slots) (g .clock) (release (cell-slots (select (doubled (g .upper)) (g .lower))) (g .free))
       (reject (doubled (g .upper)) (g .lower) ∷ map (later-cell (g .lower)) (g .upper) ∷ g .others) e
   pub head-is : m .head ≡ head (reject (doubled (g .upper)) (g .lower))
+  pub prior-is : m .prior ≡ last-slot (reject (doubled (g .upper)) (g .lower))
+  pub at-is : m .at ≡ 0
   pub counts : m .gone ≡ length (select (doubled (g .upper)) (g .lower))
 
 -- The lower ranges, beside the upper ones as they stand.
