@@ -1,33 +1,22 @@
 /* Times whole calls of the archive beside the same calls in plain C: by turns, in one process, the same calls on copies of the same
    tables. Prints a line for each load and size: load, slots, microseconds a call proved and in C, and their ratio. */
-#include "guontrem.h"
-#include "native_check.h"
+#include "calls.h"
 #include "native_store.h"
+#include "random.h"
+#include "timing.h"
 
 #include <stdio.h>
 #include <stdlib.h>
 #include <string.h>
-#include <time.h>
 
-enum { DEEPEST = 3, RATIO = 4, BUFFER = 8, TERM = 1000, WIDEST = 4, MOST_CALLS = 2000, MOST_ROUNDS = 61, MOST_REFILLED = 4000 };
+enum { DEEPEST = 3, RATIO = 4, BUFFER = 8, TERM = 1000, WIDEST = 4, MOST_CALLS = 2000, MOST_ROUNDS = 61, MOST_REFILLED = 4000, SEED = 1 };
 enum { ENTRY_WORDS = 4 * (GUONTREM_MAX_SLOTS + 1), LEVEL_WORDS = 4 * (DEEPEST + 2) };
-
-/* A letter of the script program, or S for a scan of all dockets and C for the check. */
-struct call {
-    char letter;
-    uint32_t clock, lo, hi, tally;
-};
-
-struct tables {
-    uint32_t entries[ENTRY_WORDS], levels[LEVEL_WORDS];
-    size_t entry_words;
-};
 
 /* What the tables hold first: half the slots live and mixed calls after that, every slot live, or every slot live with dockets that
    stand in the two deepest levels by turns, so that no level can go on alone in a scan. */
 enum shape { MIXED, FULL, BY_TURNS };
 
-/* How calls are drawn, one letter out of these. */
+/* How calls are drawn, one letter out of these: those of the script program, S for a scan of all dockets and C for the check. */
 static const struct load {
     const char *name, *letters;
     enum shape shape;
@@ -41,81 +30,45 @@ static const struct size {
     uint32_t slots, calls, rounds;
 } sizes[] = {{10, 2000, 61}, {100, 2000, 61}, {1000, 1000, 41}, {4000, 400, 31}, {65535, 160, 15}};
 
-static struct tables before, work;
+static uint32_t entries[2][ENTRY_WORDS], levels[2][LEVEL_WORDS];
+static struct store before = {entries[0], levels[0], 0, LEVEL_WORDS}, work = {entries[1], levels[1], 0, LEVEL_WORDS};
 static struct call calls[MOST_CALLS];
 static struct guontrem_row rows[GUONTREM_MAX_SLOTS];
-static struct native_row native_rows[GUONTREM_MAX_SLOTS];
-static uint64_t state = 88172645463325252u;
 
-static uint32_t random_below(uint32_t bound) {
-    state ^= state << 13;
-    state ^= state >> 7;
-    state ^= state << 17;
-    return (uint32_t)(state >> 16) % bound;
-}
+typedef uint64_t call_on(const struct store *, const struct call *, struct guontrem_row *);
 
-static uint64_t proved_call(struct tables *t, const struct call *c) {
-    uint32_t *e = t->entries, *l = t->levels;
-    size_t ne = t->entry_words;
-    switch (c->letter) {
-    case 'P': return guontrem_put(e, ne, l, LEVEL_WORDS, c->clock, c->lo, c->tally);
-    case 'D': return guontrem_delete(e, ne, l, LEVEL_WORDS, c->clock, c->lo);
-    case 'R': return guontrem_delete_range(e, ne, l, LEVEL_WORDS, c->clock, c->lo, c->hi);
-    case 'F': return guontrem_flush(e, ne, l, LEVEL_WORDS, c->clock);
-    case 'T': return guontrem_tick(e, ne, l, LEVEL_WORDS, c->clock);
-    case 'G': return guontrem_lookup(e, ne, l, LEVEL_WORDS, c->lo);
-    case 'S': return guontrem_scan(e, ne, l, LEVEL_WORDS, 0, GUONTREM_MAX_DOCKET, rows, ne / 4 - 1);
-    default: return guontrem_check(e, ne, l, LEVEL_WORDS);
-    }
-}
-
-static uint64_t of_timed(struct native_answer a) { return (uint64_t)a.refusal << 40 | (uint64_t)a.merges << 32 | a.purged; }
-
-static uint64_t of_found(struct native_found f) { return f.found ? (uint64_t)f.stamp << 32 | f.tally : f.refusal; }
-
-static uint64_t of_scanned(struct native_scanned s) { return (uint64_t)s.refusal << 56 | (uint64_t)s.more << 48 | (uint64_t)s.next << 32 | s.count; }
-
-static uint64_t native_call(struct tables *t, const struct call *c) {
-    uint32_t *e = t->entries, *l = t->levels;
-    size_t ne = t->entry_words;
-    switch (c->letter) {
-    case 'P': return of_timed(native_put(e, ne, l, LEVEL_WORDS, c->clock, c->lo, c->tally));
-    case 'D': return of_timed(native_delete(e, ne, l, LEVEL_WORDS, c->clock, c->lo));
-    case 'R': return of_timed(native_delete_range(e, ne, l, LEVEL_WORDS, c->clock, c->lo, c->hi));
-    case 'F': return of_timed(native_flush(e, ne, l, LEVEL_WORDS, c->clock));
-    case 'T': return of_timed(native_tick(e, ne, l, LEVEL_WORDS, c->clock));
-    case 'G': return of_found(native_lookup(e, ne, l, LEVEL_WORDS, c->lo));
-    case 'S': return of_scanned(native_scan(e, ne, l, LEVEL_WORDS, 0, GUONTREM_MAX_DOCKET, native_rows, ne / 4 - 1));
-    default: return native_check(e, ne, l, LEVEL_WORDS);
-    }
-}
-
-typedef uint64_t call_on(struct tables *, const struct call *);
-
-static void copy_tables(struct tables *to, const struct tables *from) {
+static void copy_tables(struct store *to, const struct store *from) {
     memcpy(to->entries, from->entries, from->entry_words * sizeof *from->entries);
-    memcpy(to->levels, from->levels, sizeof from->levels);
+    memcpy(to->levels, from->levels, from->level_words * sizeof *from->levels);
     to->entry_words = from->entry_words;
-}
-
-/* The processor's time, so that other work on the machine counts only by the caches it takes. */
-static double microseconds(void) {
-    struct timespec t;
-    clock_gettime(CLOCK_THREAD_CPUTIME_ID, &t);
-    return 1e6 * (double)t.tv_sec + 1e-3 * (double)t.tv_nsec;
 }
 
 /* Microseconds a call; the answers are added up so that both can be compared. */
 static double run(call_on *f, size_t count, uint64_t *sum) {
     copy_tables(&work, &before);
     double start = microseconds();
-    for (size_t i = 0; i < count; i++) *sum = *sum * 31 + f(&work, &calls[i]);
+    for (size_t i = 0; i < count; i++) *sum = *sum * 31 + f(&work, &calls[i], rows);
     return (microseconds() - start) / (double)count;
+}
+
+static enum kind kind_of(char letter) {
+    switch (letter) {
+    case 'P': return PUT;
+    case 'D': return DELETE;
+    case 'R': return DELETE_RANGE;
+    case 'F': return FLUSH;
+    case 'T': return TICK;
+    case 'G': return LOOKUP;
+    case 'S': return SCAN;
+    default: return CHECK;
+    }
 }
 
 static struct call draw(const char *letters, uint32_t clock, uint32_t dockets) {
     uint32_t lo = random_below(dockets), hi = lo + random_below(WIDEST + 1);
-    return (struct call){letters[random_below((uint32_t)strlen(letters))], clock, lo, hi < dockets ? hi : dockets - 1, random_below(UINT32_MAX)};
+    enum kind kind = kind_of(letters[random_below((uint32_t)strlen(letters))]);
+    if (kind == SCAN) return (struct call){.kind = SCAN, .lo = 0, .hi = GUONTREM_MAX_DOCKET, .row_count = before.entry_words / 4 - 1};
+    return (struct call){.kind = kind, .clock = clock, .lo = lo, .hi = hi < dockets ? hi : dockets - 1, .tally = random_word()};
 }
 
 /* Every slot a put of its own docket, in level L or L - 1 by turns: sound tables, laid out word by word. */
@@ -143,23 +96,13 @@ static uint32_t fill(const struct load *load, uint32_t slots) {
         uint32_t j = random_below(i + 1);
         order[i] = order[j], order[j] = i;
     }
-    for (uint32_t i = 0; i < live; i++) native_call(&before, &(struct call){'P', clock, order[i], order[i], i});
+    for (uint32_t i = 0; i < live; i++) native_call(&before, &(struct call){.kind = PUT, .clock = clock, .lo = order[i], .tally = i}, NULL);
     for (uint32_t i = 0; load->shape == MIXED && i < slots; i++) {
         struct call c = draw(loads[0].letters, clock += i & 1, live);
-        native_call(&before, &c);
+        native_call(&before, &c, NULL);
     }
     native_checks = 1;
     return clock;
-}
-
-static int ascending(const void *a, const void *b) {
-    double x = *(const double *)a, y = *(const double *)b;
-    return (x > y) - (x < y);
-}
-
-static double median(double *numbers, size_t count) {
-    qsort(numbers, count, sizeof *numbers, ascending);
-    return numbers[count / 2];
 }
 
 static void prepare(const struct load *load, const struct size *size) {
@@ -188,6 +131,7 @@ static void measure(const struct load *load, const struct size *size) {
 }
 
 int main(void) {
+    seed_random(SEED);
     for (size_t i = 0; i < sizeof loads / sizeof *loads; i++)
         for (size_t k = 0; k < sizeof sizes / sizeof *sizes; k++) measure(&loads[i], &sizes[k]);
     return 0;

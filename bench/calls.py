@@ -23,7 +23,7 @@ MEANINGS = {
 }
 HEAD = """# Time per call
 
-`bash scripts/bench calls` writes this page: the proved library beside the same calls written plainly in C (`bench/native_store.c`, gcc -O3), by turns in
+`bash scripts/bench calls` writes this page: the proved library beside the same calls written plainly in C (`native/native_store.c`, gcc -O3), by turns in
 one process, the same calls on copies of the same tables. Medians of 15 to 61 rounds, each but at the largest N on new tables, in microseconds of processor
 time; a ratio is the median of the rounds' own ratios. Each call includes the check of both tables, which is linear in N. L = 3, T = 4, B = 8, D = 1,000. When
 this was measured the machine had {processors} processors and a load average of {load:.1f}.

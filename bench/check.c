@@ -1,26 +1,18 @@
 /* Times the proved check beside the same walk in C, by turns on the same tables, and compares their answers on damaged ones. */
+#include "guontrem.h"
 #include "native_check.h"
+#include "random.h"
+#include "timing.h"
 
 #include <stdio.h>
 #include <stdlib.h>
 #include <string.h>
-#include <time.h>
 
-uint32_t guontrem_check(const uint32_t *entries, size_t entry_words, const uint32_t *levels, size_t level_words);
-
-enum { MOST_SLOTS = 65535, DEEPEST = 6, LEVEL_WORDS = 4 * (DEEPEST + 2), ROUNDS = 301 };
+enum { MOST_SLOTS = 65535, DEEPEST = 6, LEVEL_WORDS = 4 * (DEEPEST + 2), ROUNDS = 301, SEED = 1 };
 
 static uint32_t entries[4 * (MOST_SLOTS + 1)], levels[LEVEL_WORDS];
 static uint32_t order[MOST_SLOTS];
 static size_t taken;
-
-static uint32_t random_word(void) {
-    static uint64_t state = 88172645463325252u;
-    state ^= state << 13;
-    state ^= state >> 7;
-    state ^= state << 17;
-    return (uint32_t)(state >> 16);
-}
 
 /* Takes the next slot, writes its row, and links it behind the one before or to the head. */
 static void append(uint32_t *head, uint32_t *last, uint32_t kind, uint32_t lo, uint32_t hi, uint32_t tally, uint32_t stamp) {
@@ -39,7 +31,7 @@ static void fill(size_t slots, int scattered) {
     memset(levels, 0, sizeof levels);
     for (size_t i = 0; i < slots; i++) order[i] = (uint32_t)i + 1;
     for (size_t i = slots - 1; scattered && i > 0; i--) {
-        size_t j = random_word() % (i + 1);
+        size_t j = random_below((uint32_t)i + 1);
         uint32_t slot = order[i];
         order[i] = order[j], order[j] = slot;
     }
@@ -52,13 +44,13 @@ static void fill(size_t slots, int scattered) {
         uint32_t *row = levels + 4 * (level + 1), last = 0;
         for (size_t i = 0; i < points; i++) {
             uint32_t docket = (uint32_t)(i * 65536 / points);
-            int deleted = level < DEEPEST && random_word() % 3 == 0;
-            append(&row[0], &last, deleted ? 2 : 1, docket, docket, deleted ? 0 : random_word(), 500 + random_word() % 1000);
+            int deleted = level < DEEPEST && one_in(3);
+            append(&row[0], &last, deleted ? 2 : 1, docket, docket, deleted ? 0 : random_word(), 500 + random_below(1000));
         }
         last = 0;
         for (size_t i = 0; i < ranges; i++) {
             uint32_t lo = (uint32_t)(i * 65536 / ranges);
-            append(&row[1], &last, 3, lo, lo + random_word() % (65536 - lo), 0, 500 + random_word() % 1000);
+            append(&row[1], &last, 3, lo, lo + random_below(65536 - lo), 0, 500 + random_below(1000));
         }
         row[2] = (uint32_t)count, row[3] = level < DEEPEST && count ? 400 : 0;
         left -= count;
@@ -67,23 +59,12 @@ static void fill(size_t slots, int scattered) {
     while (taken < slots) append(&entries[0], &last, 0, 0, 0, 0, 0);
 }
 
-static double microseconds(void) {
-    struct timespec t;
-    clock_gettime(CLOCK_MONOTONIC, &t);
-    return 1e6 * (double)t.tv_sec + 1e-3 * (double)t.tv_nsec;
-}
-
 typedef uint32_t check(const uint32_t *, size_t, const uint32_t *, size_t);
 
 static double once(check *f, size_t slots, size_t calls, uint32_t *answer) {
     double start = microseconds();
     for (size_t i = 0; i < calls; i++) *answer |= f(entries, 4 * (slots + 1), levels, LEVEL_WORDS);
     return (microseconds() - start) / (double)calls;
-}
-
-static int ascending(const void *a, const void *b) {
-    double x = *(const double *)a, y = *(const double *)b;
-    return (x > y) - (x < y);
 }
 
 static void measure(size_t slots, int scattered) {
@@ -99,9 +80,7 @@ static void measure(size_t slots, int scattered) {
         printf("the tables are refused %u\n", answer);
         exit(1);
     }
-    qsort(proved, ROUNDS, sizeof *proved, ascending);
-    qsort(native, ROUNDS, sizeof *native, ascending);
-    double p = proved[ROUNDS / 2], n = native[ROUNDS / 2];
+    double p = median(proved, ROUNDS), n = median(native, ROUNDS);
     printf("%7zu  %-9s  %10.3f  %10.3f  %5.2f\n", slots, scattered ? "scattered" : "in order", p, n, p / n);
 }
 
@@ -109,14 +88,14 @@ static void measure(size_t slots, int scattered) {
 static void compare(size_t tables) {
     size_t differ = 0, met[4] = {0};
     for (size_t i = 0; i < tables; i++) {
-        size_t slots = 1 + random_word() % 60;
+        size_t slots = random_between(1, 60);
         if (i % 64 == 0) fill(slots, 1);
         else slots = taken;
-        size_t words = 4 * (slots + 1), at = random_word() % (words + LEVEL_WORDS);
+        size_t words = 4 * (slots + 1), at = random_below((uint32_t)words + LEVEL_WORDS);
         uint32_t *word = at < words ? &entries[at] : &levels[at - words], old = *word;
-        uint32_t next = random_word() % (uint32_t)(slots + 2);
-        uint32_t changes[] = {next, old ^ 1u << random_word() % 32, 0, old + 1, (old & 0xffff0000u) | next, random_word(), old};
-        *word = changes[random_word() % 7];
+        uint32_t next = random_below((uint32_t)slots + 2);
+        uint32_t changes[] = {next, old ^ 1u << random_below(32), 0, old + 1, (old & 0xffff0000u) | next, random_word(), old};
+        *word = RANDOM_OF(changes);
         uint32_t answer = native_check(entries, words, levels, LEVEL_WORDS);
         differ += guontrem_check(entries, words, levels, LEVEL_WORDS) != answer;
         met[answer] += 1;
@@ -128,6 +107,7 @@ static void compare(size_t tables) {
 
 int main(void) {
     static const size_t sizes[] = {10, 100, 1000, 4000, 65535};
+    seed_random(SEED);
     printf("The check, microseconds a call (median of %d rounds by turns)\n", ROUNDS);
     printf("  slots  chains         proved           C  ratio\n");
     for (size_t i = 0; i < sizeof sizes / sizeof *sizes; i++)

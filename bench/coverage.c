@@ -1,46 +1,28 @@
 /* Times three ways for a merge to ask whether an upper range is over a lower point, on loads with range deletes: the walk of the
    range chain that stops past the docket, the same behind ranges that end before it, and a running maximum of hi. */
 #include "native_store.h"
+#include "random.h"
+#include "timing.h"
 
 #include <stdio.h>
-#include <stdlib.h>
-#include <string.h>
-#include <time.h>
 
-enum { MOST_SLOTS = 65535, DEEPEST = 3, LEVEL_WORDS = 4 * (DEEPEST + 2), CALLS = 20000 };
+enum { MOST_SLOTS = 65535, DEEPEST = 3, LEVEL_WORDS = 4 * (DEEPEST + 2), CALLS = 20000, SEED = 1 };
 
 static uint32_t entries[4 * (MOST_SLOTS + 1)], levels[LEVEL_WORDS];
-static uint64_t state;
-
-static uint32_t random_below(uint32_t bound) {
-    state ^= state << 13;
-    state ^= state >> 7;
-    state ^= state << 17;
-    return (uint32_t)(state >> 16) % bound;
-}
-
-static void make(uint32_t slots) {
-    memset(entries, 0, sizeof entries);
-    memset(levels, 0, sizeof levels);
-    entries[0] = 1;
-    for (uint32_t s = 1; s < slots; s++) entries[4 * s] = s + 1;
-    levels[0] = DEEPEST, levels[1] = 10, levels[2] = 64, levels[3] = 1000000;
-}
 
 /* Microseconds a call: puts, and in so many of a hundred a range delete of so many dockets. */
 static double run(enum native_coverage coverage, int checks, uint32_t slots, uint32_t percent, uint32_t width) {
-    struct timespec begin, end;
     size_t words = 4 * (slots + 1);
-    native_coverage = coverage, native_checks = checks, state = 88172645463325252u;
-    make(slots);
-    clock_gettime(CLOCK_MONOTONIC, &begin);
+    native_coverage = coverage, native_checks = checks;
+    seed_random(SEED);
+    native_make(entries, words, levels, LEVEL_WORDS, DEEPEST, 10, 64, 1000000);
+    double begin = microseconds();
     for (uint32_t t = 1; t <= CALLS; t++) {
         uint32_t docket = random_below(65536), hi = docket + width > 65535 ? 65535 : docket + width;
         if (random_below(100) < percent) native_delete_range(entries, words, levels, LEVEL_WORDS, t, docket, hi);
         else native_put(entries, words, levels, LEVEL_WORDS, t, docket, t);
     }
-    clock_gettime(CLOCK_MONOTONIC, &end);
-    return ((double)(end.tv_sec - begin.tv_sec) * 1e9 + (double)(end.tv_nsec - begin.tv_nsec)) / 1e3 / CALLS;
+    return (microseconds() - begin) / CALLS;
 }
 
 int main(void) {

@@ -51,11 +51,14 @@ def check(entries, levels):
     return _read(_library.guontrem_check, entries, levels)
 
 
-def lookup(entries, levels, docket):
+def _looked_up(answer):
     """Document 01's four numbers: refusal, found, tally, stamp."""
-    answer = _read(_library.guontrem_lookup, entries, levels, docket)
     stamp, rest = divmod(answer, STAMP_UNIT)
     return (0, 1, rest, stamp) if stamp else (rest, 0, 0, 0)
+
+
+def lookup(entries, levels, docket):
+    return _looked_up(_read(_library.guontrem_lookup, entries, levels, docket))
 
 
 class Store:
@@ -87,9 +90,7 @@ class Store:
         return (answer // REFUSAL_UNIT, answer % REFUSAL_UNIT // MERGES_UNIT, answer % MERGES_UNIT)
 
     def lookup(self, docket):
-        """Document 01's four numbers: refusal, found, tally, stamp."""
-        stamp, rest = divmod(self._call("lookup", docket), STAMP_UNIT)
-        return (0, 1, rest, stamp) if stamp else (rest, 0, 0, 0)
+        return _looked_up(self._call("lookup", docket))
 
     def scan(self, lo, hi, rows):
         """Document 01's numbers, refusal, count, more and next docket, and the lent rows as the scan left them."""

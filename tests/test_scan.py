@@ -5,8 +5,8 @@ import unittest
 import library
 import reference
 import tables
-from test_calls import load, made, random_call, random_settings
-from test_tables import damage, random_tables
+from loads import damage, fresh_store, random_call, random_settings, random_tables, reference_of
+from plain_map import PlainMap
 
 LAST_DOCKET = 65535
 JUNK = (0xdead, 0xbeef, 0xfeed)
@@ -23,20 +23,6 @@ def live_dockets(store, dockets):
     """Each docket that a lookup of the plain steps finds, with its tally and stamp."""
     found = {docket: store.lookup(docket) for docket in dockets}
     return {docket: answer[1:] for docket, answer in found.items() if answer[0]}
-
-
-class PlainMap:
-    """A map of dockets to tallies and stamps, no store inside."""
-
-    def __init__(self):
-        self.rows = {}
-
-    def change(self, letter, clock, *numbers):
-        if letter == "P":
-            self.rows[numbers[0]] = (numbers[1], clock)
-        elif letter in "DR":
-            lo, hi = numbers[0], numbers[-1]
-            self.rows = {k: v for k, v in self.rows.items() if not lo <= k <= hi}
 
 
 class Scans(unittest.TestCase):
@@ -57,7 +43,7 @@ class Scans(unittest.TestCase):
     def run_list(self, rng, n, dockets, calls):
         """A store after random calls, the plain map after those that were accepted, and the plain steps."""
         settings = random_settings(rng, n)
-        store, plain, steps = made(*settings), PlainMap(), reference.Store(*settings)
+        store, plain, steps = fresh_store(*settings), PlainMap(), reference.Store(*settings)
         for _ in range(calls):
             call = random_call(rng, steps.clock, dockets, settings[4])
             answer = store.call(*call)
@@ -68,7 +54,7 @@ class Scans(unittest.TestCase):
 
     def test_document_01(self):
         """Scan with no rows over a live docket: count 0, more."""
-        store = made(6, 2, 2, 1, 4)
+        store = fresh_store(6, 2, 2, 1, 4)
         for docket, tally in ((5, 50), (6, 60), (7, 70)):
             store.call("P", 1, docket, tally)
         self.assertEqual(store.scan(6, 7, []), ((0, 0, True, 6), []))
@@ -105,7 +91,7 @@ class Scans(unittest.TestCase):
         rng = random.Random(seed)
         for k in range(1500):
             entries, levels = random_tables(rng)
-            live, store = live_dockets(load(entries, levels), range(31)), library.Store(entries, levels)
+            live, store = live_dockets(reference_of(entries, levels), range(31)), library.Store(entries, levels)
             for room in (0, 1, 2, len(live), len(live) + 2):
                 self.check(store, live, 0, LAST_DOCKET, room, f"seed {seed}: tables {k}")
                 lo, hi = sorted((rng.randrange(31), rng.choice((rng.randrange(31), LAST_DOCKET))))
@@ -118,7 +104,7 @@ class Scans(unittest.TestCase):
         self.assertEqual(store.words(), before, note)
 
     def test_dockets_out_of_range(self):
-        store = made(6, 3, 2, 2, 9)
+        store = fresh_store(6, 3, 2, 2, 9)
         store.call("P", 1, 7, 70)
         for lo, hi in ((1, 0), (LAST_DOCKET, 0), (0, 65536), (65536, 65536), (0, 4294967295), (4294967295, 0)):
             self.refused(store, lo, hi, 4, (lo, hi))

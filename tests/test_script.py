@@ -10,9 +10,9 @@ import subprocess
 import tempfile
 import unittest
 
-import scripts
+import random_scripts
 from cases import CASES
-from scripts import PATIENCE, PROGRAM
+from random_scripts import PATIENCE, PROGRAM
 
 LINES = 1000000
 NO_FORM = b"9 0 0\n"
@@ -80,7 +80,7 @@ READABLE = {
 
 def run(script):
     """What a script prints; the program itself ends well and has nothing to say."""
-    printed, errors, status = scripts.run_program(script)
+    printed, errors, status = random_scripts.run_program(script)
     assert (errors, status) == (b"", 0), f"status {status}, errors {errors[:200]!r}"
     return printed
 
@@ -124,10 +124,10 @@ class Document01(unittest.TestCase):
 
     def test_the_model(self):
         """The random scripts' own model prints what the tables here say."""
-        self.assertEqual(scripts.Model().print_script(INPUT), OUTPUT)
+        self.assertEqual(random_scripts.Model().print_script(INPUT), OUTPUT)
         for name, lines, answers in EDGES:
-            self.assertEqual(scripts.Model().print_script(lines.replace("/", "\n").encode()), answers.replace("/", "\n").encode() + b"\n", name)
-        self.assertEqual([line for lines in MALFORMED.values() for line in lines if scripts.read_line(line)], [])
+            self.assertEqual(random_scripts.Model().print_script(lines.replace("/", "\n").encode()), answers.replace("/", "\n").encode() + b"\n", name)
+        self.assertEqual([line for lines in MALFORMED.values() for line in lines if random_scripts.read_line(line)], [])
 
 
 class Lines(unittest.TestCase):
@@ -252,12 +252,12 @@ class Random(unittest.TestCase):
     def test_random_scripts(self):
         seed = random.randrange(1 << 32)
         print(f"seed {seed}", flush=True)
-        counts = scripts.run_random(seed, LINES)
+        counts = random_scripts.run_random(seed, LINES)
         self.assertGreaterEqual(counts["lines"], 500000)
         self.assertEqual({number for number in range(10) if counts[number]}, {0, 1, 4, 5, 6, 7, 9}, f"seed {seed}: the refusals that were met")
         for name in ("merges", "purged", "found", "absent"):
             self.assertGreater(counts[name], 0, f"seed {seed}: {name}")
-        print(scripts.told(counts))
+        print(random_scripts.told(counts))
 
 
 if __name__ == "__main__":

@@ -1,7 +1,7 @@
 #ifndef GUONTREM_TEST_COUNTS_H
 #define GUONTREM_TEST_COUNTS_H
 
-#include "calls.h"
+#include "pairs.h"
 #include "tables.h"
 
 /* What was met so far. */

@@ -1,9 +1,7 @@
 /* The header's limits are the archive's: each end is accepted, and what lies past it is refused. */
 #include "limits.h"
 
-#include "calls.h"
 #include "counts.h"
-#include "guontrem.h"
 
 static uint32_t refusal_of_make(uint32_t slots, struct settings settings) {
     struct store s = new_store(GUONTREM_ENTRY_WORDS(slots), GUONTREM_LEVEL_WORDS(settings.deepest));

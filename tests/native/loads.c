@@ -2,7 +2,6 @@
 #include "loads.h"
 
 #include "counts.h"
-#include "guontrem.h"
 #include "random.h"
 #include "scans.h"
 
@@ -28,7 +27,7 @@ struct settings random_settings(void) {
     return s;
 }
 
-static uint32_t at_most(uint32_t most, uint64_t number) { return number < most ? (uint32_t)number : most; }
+uint32_t at_most(uint32_t most, uint64_t number) { return number < most ? (uint32_t)number : most; }
 
 /* A clock that stands still, goes on, goes in jumps, or jumps by the term. */
 static void draw_steps(uint32_t *steps, uint32_t term) {

@@ -1,7 +1,10 @@
 #ifndef GUONTREM_TEST_LOADS_H
 #define GUONTREM_TEST_LOADS_H
 
-#include "calls.h"
+#include "store.h"
+
+/* The number, or the most that it may be. */
+uint32_t at_most(uint32_t most, uint64_t number);
 
 /* How the calls on one store are drawn. */
 struct load {

@@ -1,10 +1,9 @@
 /* The archive beside plain C: `native_tests [CALLS] [SEED]` makes so many random calls. */
-#include "calls.h"
 #include "counts.h"
-#include "guontrem.h"
 #include "limits.h"
 #include "loads.h"
 #include "native_check.h"
+#include "pairs.h"
 #include "random.h"
 #include "tables.h"
 #include "twins.h"

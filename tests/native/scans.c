@@ -1,7 +1,6 @@
 /* Scans: the archive's beside plain C, and plain C beside one lookup for each docket. */
 #include "scans.h"
 
-#include "guontrem.h"
 #include "native_store.h"
 
 #include <stdlib.h>
@@ -12,7 +11,7 @@ enum { MOST_DOCKETS = GUONTREM_MAX_DOCKET + 1, WIDEST_BY_LOOKUPS = 100 };
 static const size_t spare_rows = GUARD_WORDS;
 
 size_t live_dockets(const struct store *s, uint32_t lo, uint32_t hi) {
-    static struct native_row rows[MOST_DOCKETS];
+    static struct guontrem_row rows[MOST_DOCKETS];
     return native_scan(s->entries, s->entry_words, s->levels, s->level_words, lo, hi, rows, MOST_DOCKETS).count;
 }
 
@@ -25,22 +24,13 @@ static struct guontrem_row *junk_rows(size_t count) {
     return rows;
 }
 
-static struct answer scan_native(const struct store *s, const struct call *c, struct guontrem_row *rows) {
-    struct native_row *own = calloc(c->row_count + 1, sizeof *own);
-    if (own == NULL) exit(2);
-    struct native_scanned a = native_scan(s->entries, s->entry_words, s->levels, s->level_words, c->lo, c->hi, own, c->row_count);
-    for (uint32_t i = 0; i < a.count; i++) rows[i] = (struct guontrem_row){own[i].docket, own[i].tally, own[i].stamp};
-    free(own);
-    return (struct answer){a.refusal, {a.count, a.more, a.next}};
-}
-
 /* The check is left out, since a scan that is not refused has done it. */
 static struct answer scan_by_lookups(const struct store *s, const struct call *c, struct guontrem_row *rows) {
     struct answer a = {0, {0}};
     native_checks = 0;
     for (uint32_t docket = c->lo; docket <= c->hi && a.parts[1] == 0; docket++) {
         struct native_found f = native_lookup(s->entries, s->entry_words, s->levels, s->level_words, docket);
-        if (f.found && a.parts[0] < c->row_count) rows[a.parts[0]++] = (struct guontrem_row){docket, f.tally, f.stamp};
+        if (f.found && a.parts[0] < c->row_count) rows[a.parts[0]++] = (struct guontrem_row){.docket = docket, .tally = f.tally, .stamp = f.stamp};
         else if (f.found) a.parts[1] = 1, a.parts[2] = docket;
     }
     native_checks = 1;
@@ -52,14 +42,13 @@ static void compare_scans(const struct pair *p, const struct call *c, struct ans
     if (memcmp(x, y, (c->row_count + spare_rows) * sizeof *x) != 0) fail("the scans' rows differ", p, c);
 }
 
-struct answer scan_both(struct pair *p, const struct call *c) {
+struct answer scan_both(const struct pair *p, const struct call *c) {
     struct guontrem_row *expected = junk_rows(c->row_count), *rows = junk_rows(c->row_count);
-    struct answer a = scan_native(&p->proved, c, expected);
+    uint64_t number = native_call(&p->proved, c, expected);
+    struct answer a = unpack_plainly(SCAN, number);
     if (a.refusal == 0 && c->hi - c->lo < WIDEST_BY_LOOKUPS) compare_scans(p, c, scan_by_lookups(&p->proved, c, rows), rows, a, expected);
-    const struct store *s = &p->proved;
     memset(rows, 0xa5, (c->row_count + spare_rows) * sizeof *rows);
-    uint64_t number = guontrem_scan(s->entries, s->entry_words, s->levels, s->level_words, c->lo, c->hi, rows, c->row_count);
-    if (number != pack(SCAN, a)) fail("the answers differ", p, c);
+    if (proved_call(&p->proved, c, rows) != number) fail("the answers differ", p, c);
     compare_scans(p, c, unpack(SCAN, number), rows, a, expected);
     free(expected);
     free(rows);

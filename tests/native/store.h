@@ -1,20 +1,14 @@
 #ifndef GUONTREM_TEST_STORE_H
 #define GUONTREM_TEST_STORE_H
 
+#include "calls.h"
+
 #include <stdbool.h>
-#include <stddef.h>
-#include <stdint.h>
 
 /* Words about each table that no call may write; none where a tool looks for that. Their odd number leaves tables aligned to one word only. */
 #ifndef GUARD_WORDS
 #define GUARD_WORDS 5
 #endif
-
-/* Two lent tables of any lengths and content. */
-struct store {
-    uint32_t *entries, *levels;
-    size_t entry_words, level_words;
-};
 
 /* Tables of so many words, all junk, between guard words. */
 struct store new_store(size_t entry_words, size_t level_words);

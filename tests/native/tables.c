@@ -1,7 +1,6 @@
 /* Sound tables that no list of calls need reach, and damaged ones. */
 #include "tables.h"
 
-#include "guontrem.h"
 #include "loads.h"
 #include "random.h"
 
@@ -65,16 +64,14 @@ static struct chain lay_ranges(uint32_t *e, const struct span *span, uint32_t co
     return chain;
 }
 
-static uint32_t lesser(uint32_t a, uint32_t b) { return a < b ? a : b; }
-
 static void lay_level(struct store *s, const struct span *span, uint32_t level) {
     bool deepest = level == s->levels[0];
     uint32_t room = deepest && one_in(3) ? left : random_between(0, left);
     struct chain points = lay_points(s->entries, span, room, deepest), ranges = {0};
-    if (!deepest && one_in(2)) ranges = lay_ranges(s->entries, span, random_between(0, lesser(left, one_in(3) ? left : 4)));
+    if (!deepest && one_in(2)) ranges = lay_ranges(s->entries, span, random_between(0, at_most(left, one_in(3) ? left : 4)));
     uint32_t owed = 0, *row = level_row(s, level);
     /* None is 0, which one less takes past every stamp. */
-    if (points.earliest != 0 || ranges.earliest != 0) owed = random_between(1, lesser(points.earliest - 1, ranges.earliest - 1) + 1);
+    if (points.earliest != 0 || ranges.earliest != 0) owed = random_between(1, at_most(points.earliest - 1, ranges.earliest - 1) + 1);
     else if (!deepest && points.count != 0 && one_in(2)) owed = random_between(1, span->clock);
     row[0] = points.head, row[1] = ranges.head, row[2] = points.count + ranges.count, row[3] = owed;
 }
@@ -83,7 +80,7 @@ void lay_sound(struct store *s) {
     struct settings settings = random_settings();
     uint32_t slots = slot_count(s), deepest = (uint32_t)(s->level_words / 4 - 2);
     const uint32_t spaces[] = {30, slots, slots + 1, 2 * slots, MOST_DOCKETS};
-    uint32_t space = lesser(MOST_DOCKETS, RANDOM_OF(spaces)), clock = one_in(4) ? random_between(1, UINT32_MAX) : random_between(1, 50);
+    uint32_t space = at_most(MOST_DOCKETS, RANDOM_OF(spaces)), clock = one_in(4) ? random_between(1, UINT32_MAX) : random_between(1, 50);
     struct span span = {one_in(2) ? 0 : MOST_DOCKETS - space, 0, one_in(2) ? 1 : 1 + space / slots, clock};
     span.end = span.first + space;
     memset(s->entries, 0, s->entry_words * sizeof(uint32_t));

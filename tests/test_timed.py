@@ -7,57 +7,14 @@ import library
 import reference
 import tables
 from cases import CASES
-from tables import PUT
-from test_tables import damage, random_tables
-
-LETTERS = "PPPPDDRFTT"
-
-
-def made(n, l, t, b, d):
-    store = library.Store([0xdead] * (4 * (n + 1)), [0xbeef] * (4 * (l + 2)))
-    assert store.make(l, t, b, d) == 0
-    return store
-
-
-def read_levels(entries, levels):
-    """Each level read along its chains: points, ranges and owed, as the reference keeps them."""
-    for i in range(levels[0] + 1):
-        points, ranges, _, owed = levels[4 * (i + 1):4 * (i + 2)]
-        rows = [[tables.Row(entries, s) for s in tables.chain(entries, head)] for head in (points, ranges)]
-        yield {p.lo: (p.kind, p.tally, p.stamp) for p in rows[0]}, {(r.lo, r.hi): r.stamp for r in rows[1]}, owed
-
-
-def load(entries, levels):
-    """The reference in the state that sound tables read as."""
-    store = reference.Store(len(entries) // 4 - 1, *levels[:4])
-    store.clock = entries[1]
-    for level, (level.points, level.ranges, level.owed) in zip(store.levels, read_levels(entries, levels)):
-        pass
-    return store
-
-
-def random_call(rng, clock, dockets, term):
-    letter = rng.choice(LETTERS)
-    t = max(0, clock + rng.choice((0, 0, 0, 1, 1, 1, 2, term, -1, rng.randrange(2 * term + 2))))
-    a, b = sorted((rng.randrange(dockets), rng.randrange(dockets)))
-    odd = rng.random()
-    if odd < 0.01:
-        a, b = b + 1, a
-    elif odd < 0.02:
-        a, b = 65536, 65536 + rng.randrange(5)
-    return {"P": ("P", t, a, rng.getrandbits(32)), "D": ("D", t, a), "R": ("R", t, a, b), "F": ("F", t), "T": ("T", t)}[letter]
-
-
-def random_settings(rng, n):
-    l = rng.randint(2, 6)
-    return n, l, rng.randint(2, 10), rng.choice((1, 2, 3, 8, 64)), rng.choice((1, 2, 9, 40, 1000))
+from loads import damage, fresh_store, random_call, random_settings, random_tables, read_levels, reference_of
 
 
 class Document01(unittest.TestCase):
     def test_cases(self):
         for name, settings, calls, answers in CASES:
             with self.subTest(name):
-                store = made(*settings)
+                store = fresh_store(*settings)
                 self.assertEqual([store.lookup(c[1])[1:] if c[0] == "G" else store.call(*c) for c in calls], answers)
 
 
@@ -82,7 +39,7 @@ class Random(unittest.TestCase):
         for n, lists, calls in ((1, 30, 60), (3, 60, 100), (10, 60, 200), (60, 20, 400), (400, 3, 1200)):
             for _ in range(lists):
                 settings = random_settings(rng, n)
-                store, expected = made(*settings), reference.Store(*settings)
+                store, expected = fresh_store(*settings), reference.Store(*settings)
                 dockets = rng.choice((n + 1, 2 * n + 2, 65536))
                 for i in range(calls):
                     call = random_call(rng, expected.clock, dockets, settings[4])
@@ -109,7 +66,7 @@ class Random(unittest.TestCase):
                     met[refusal] = met.get(refusal, 0) + 1
                 elif call[1] < 1 << 32:
                     met[0] = met.get(0, 0) + 1
-                    self.same(store, load(e, l), call, note)
+                    self.same(store, reference_of(e, l), call, note)
         self.assertEqual(set(met), {0, 1, 2, 3}, f"seed {seed}: an outcome was not met")
         print(f"seed {seed}: " + ", ".join(f"{met[k]} tables answered {k}" for k in sorted(met)))
 
@@ -128,7 +85,7 @@ class Twins(unittest.TestCase):
         docket = calls[chosen][2]
         other = list(calls)
         other[chosen] = calls[chosen][:3] + (calls[chosen][3] ^ (1 << rng.randrange(32)),)
-        one, two, steps = made(*settings), made(*settings), reference.Store(*settings)
+        one, two, steps = fresh_store(*settings), fresh_store(*settings), reference.Store(*settings)
         waiting, gone, differed, erased = [], [], False, False
         for i, (a, b) in enumerate(zip(calls, other)):
             answer = one.call(*a)

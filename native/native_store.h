@@ -1,8 +1,7 @@
 #ifndef GUONTREM_NATIVE_STORE_H
 #define GUONTREM_NATIVE_STORE_H
 
-#include <stddef.h>
-#include <stdint.h>
+#include "guontrem.h"
 
 /* The calls of document 01 on the two tables, written plainly in C. */
 struct native_answer {
@@ -13,17 +12,13 @@ struct native_found {
     uint32_t refusal, found, tally, stamp;
 };
 
-struct native_row {
-    uint32_t docket, tally, stamp;
-};
-
 struct native_scanned {
     uint32_t refusal, count, more, next;
 };
 
 uint32_t native_make(uint32_t *e, size_t ne, uint32_t *l, size_t nl, uint32_t deepest, uint32_t ratio, uint32_t buffer, uint32_t term);
 struct native_found native_lookup(const uint32_t *e, size_t ne, const uint32_t *l, size_t nl, uint32_t docket);
-struct native_scanned native_scan(const uint32_t *e, size_t ne, const uint32_t *l, size_t nl, uint32_t lo, uint32_t hi, struct native_row *rows, size_t row_count);
+struct native_scanned native_scan(const uint32_t *e, size_t ne, const uint32_t *l, size_t nl, uint32_t lo, uint32_t hi, struct guontrem_row *rows, size_t row_count);
 struct native_answer native_put(uint32_t *e, size_t ne, uint32_t *l, size_t nl, uint32_t clock, uint32_t docket, uint32_t tally);
 struct native_answer native_delete(uint32_t *e, size_t ne, uint32_t *l, size_t nl, uint32_t clock, uint32_t docket);
 struct native_answer native_delete_range(uint32_t *e, size_t ne, uint32_t *l, size_t nl, uint32_t clock, uint32_t lo, uint32_t hi);

@@ -302,7 +302,7 @@ static uint32_t pass_docket(const uint32_t *e, struct cursor *at, uint32_t deepe
     return slot;
 }
 
-struct native_scanned native_scan(const uint32_t *e, size_t ne, const uint32_t *l, size_t nl, uint32_t lo, uint32_t hi, struct native_row *rows, size_t row_count) {
+struct native_scanned native_scan(const uint32_t *e, size_t ne, const uint32_t *l, size_t nl, uint32_t lo, uint32_t hi, struct guontrem_row *rows, size_t row_count) {
     struct native_scanned answer = {native_checks ? native_check(e, ne, l, nl) : 0, 0, 0, 0};
     if (answer.refusal == 0 && (hi > LAST_DOCKET || hi < lo)) answer.refusal = 4;
     if (answer.refusal != 0) return answer;
@@ -318,7 +318,7 @@ struct native_scanned native_scan(const uint32_t *e, size_t ne, const uint32_t *
             answer.more = 1, answer.next = docket;
             break;
         }
-        rows[answer.count++] = (struct native_row){docket, e[4 * slot + 2], e[4 * slot + 3]};
+        rows[answer.count++] = (struct guontrem_row){.docket = docket, .tally = e[4 * slot + 2], .stamp = e[4 * slot + 3]};
     }
     return answer;
 }

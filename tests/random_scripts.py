@@ -1,6 +1,6 @@
 """Random scripts for the script program, and what it prints by document 01: refusals, merges and purged by the plain steps, lookups by a plain map.
 
-`python3 tests/scripts.py LINES [SEED]` runs so many random lines."""
+`python3 tests/random_scripts.py LINES [SEED]` runs so many random lines."""
 import collections
 import pathlib
 import random
@@ -10,6 +10,7 @@ import sys
 
 import reference
 import tables
+from plain_map import PlainMap
 
 ROOT = pathlib.Path(__file__).parent.parent
 PROGRAM = ROOT / "target" / "bin" / "run_script"
@@ -40,7 +41,7 @@ class Model:
     """What a script prints. The map knows only which calls were accepted, and the answers to lookups are the map's."""
 
     def __init__(self):
-        self.store, self.tallies = None, {}
+        self.store, self.map = None, PlainMap()
         self.counts = collections.Counter()
         self.disagreements = []   # lines on which the plain steps and the map differ
 
@@ -62,36 +63,27 @@ class Model:
     def make(self, n, *settings):
         refusal = 9 if n > MOST_SLOTS else 1 if n == 0 else 0 if tables.settings_fit(*settings) else 6
         if refusal == 0:
-            self.store, self.tallies = reference.Store(n, *settings), {}
+            self.store, self.map = reference.Store(n, *settings), PlainMap()
         return (refusal, 0, 0)
 
     def call(self, letter, *numbers):
-        # By the map alone: every slot holds a live docket, and this is none of them.
-        full = letter == "P" and len(self.tallies) == self.store.n and numbers[1] not in self.tallies
+        full = letter == "P" and self.map.is_full(self.store.n, numbers[1])
         answer = self.store.call(letter, *numbers)
         if answer[0] in (0, 7) and (answer[0] == 7) != full:
             self.disagreements.append((letter, *numbers))
         if answer[0] == 0:
-            self.change(letter, *numbers[1:])
+            self.map.change(letter, *numbers)
         self.counts.update(merges=answer[1], purged=answer[2])
         return answer
-
-    def change(self, letter, *numbers):
-        if letter == "P":
-            self.tallies[numbers[0]] = numbers[1]
-        elif letter == "D":
-            self.tallies.pop(numbers[0], None)
-        elif letter == "R":
-            self.tallies = {k: v for k, v in self.tallies.items() if not numbers[0] <= k <= numbers[1]}
 
     def lookup(self, docket):
         if docket > LAST_DOCKET:
             return (4, 0, 0)
-        answer = (1, self.tallies[docket]) if docket in self.tallies else (0, 0)
-        if self.store.lookup(docket)[:2] != answer:
+        found, tally, stamp = self.map.lookup(docket)
+        if self.store.lookup(docket) != (found, tally, stamp):
             self.disagreements.append(("G", docket))
-        self.counts["found" if answer[0] else "absent"] += 1
-        return (0, *answer)
+        self.counts["found" if found else "absent"] += 1
+        return (0, found, tally)
 
 
 # Most slots, most lines, and how often such a store is drawn: to the plain steps, full tables of many slots are dear.

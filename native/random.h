@@ -1,9 +1,10 @@
-#ifndef GUONTREM_TEST_RANDOM_H
-#define GUONTREM_TEST_RANDOM_H
+#ifndef GUONTREM_NATIVE_RANDOM_H
+#define GUONTREM_NATIVE_RANDOM_H
 
 #include <stdbool.h>
 #include <stdint.h>
 
+/* Before any number is drawn. */
 void seed_random(uint64_t seed);
 uint32_t random_word(void);
 uint32_t random_below(uint32_t bound);

@@ -1,0 +1,94 @@
+"""What the tests run on: random settings, random calls, random tables sound and damaged, and stores in a given state."""
+import library
+import reference
+import tables
+from tables import BASE, DELETE, PUT, RANGE
+
+LARGEST = 4294967295
+LETTERS = "PPPPDDRFTT"
+
+
+def fresh_store(n, l, t, b, d):
+    """A store of the library, made where the tables were junk."""
+    store = library.Store([0xdead] * (4 * (n + 1)), [0xbeef] * (4 * (l + 2)))
+    assert store.make(l, t, b, d) == 0
+    return store
+
+
+def read_levels(entries, levels):
+    """Each level read along its chains: points, ranges and owed, as the reference keeps them."""
+    for i in range(levels[0] + 1):
+        points, ranges, _, owed = levels[4 * (i + 1):4 * (i + 2)]
+        rows = [[tables.Row(entries, s) for s in tables.chain(entries, head)] for head in (points, ranges)]
+        yield {p.lo: (p.kind, p.tally, p.stamp) for p in rows[0]}, {(r.lo, r.hi): r.stamp for r in rows[1]}, owed
+
+
+def reference_of(entries, levels):
+    """The reference in the state that sound tables read as."""
+    store = reference.Store(len(entries) // 4 - 1, *levels[:4])
+    store.clock = entries[1]
+    for level, (level.points, level.ranges, level.owed) in zip(store.levels, read_levels(entries, levels)):
+        pass
+    return store
+
+
+def random_settings(rng, n):
+    l = rng.randint(2, 6)
+    return n, l, rng.randint(2, 10), rng.choice((1, 2, 3, 8, 64)), rng.choice((1, 2, 9, 40, 1000))
+
+
+def random_call(rng, clock, dockets, term):
+    letter = rng.choice(LETTERS)
+    t = max(0, clock + rng.choice((0, 0, 0, 1, 1, 1, 2, term, -1, rng.randrange(2 * term + 2))))
+    a, b = sorted((rng.randrange(dockets), rng.randrange(dockets)))
+    odd = rng.random()
+    if odd < 0.01:
+        a, b = b + 1, a
+    elif odd < 0.02:
+        a, b = 65536, 65536 + rng.randrange(5)
+    return {"P": ("P", t, a, rng.getrandbits(32)), "D": ("D", t, a), "R": ("R", t, a, b), "F": ("F", t), "T": ("T", t)}[letter]
+
+
+def random_tables(rng):
+    """Sound tables, mostly not reachable by calls."""
+    deepest, slots = rng.randint(2, 6), rng.randint(1, 40)
+    order = rng.sample(range(1, slots + 1), slots)
+    clock = rng.randint(1, 50)
+    entries, levels = [0] * (4 * (slots + 1)), [deepest, rng.randint(2, 10), rng.randint(1, 64), rng.randint(1, LARGEST)] + [0] * (4 * (deepest + 1))
+    entries[1] = clock
+
+    def lay(records):
+        taken = [order.pop() for _ in records]
+        for slot, after, (kind, span, tally, stamp) in zip(taken, taken[1:] + [0], records):
+            entries[4 * slot:4 * slot + 4] = [after + BASE * kind, span, tally, stamp]
+        return taken[0] if taken else 0
+
+    for i in range(deepest + 1):
+        room = rng.randint(0, len(order))
+        dockets = sorted(rng.sample(range(30), min(30, rng.randint(0, room))))
+        kinds = [PUT if i == deepest else rng.choice((PUT, DELETE)) for _ in dockets]
+        points = [(kind, k + BASE * k, rng.getrandbits(32) if kind == PUT else 0, rng.randint(1, clock)) for kind, k in zip(kinds, dockets)]
+        spans = sorted({tuple(sorted((rng.randrange(30), rng.randrange(30)))) for _ in range(0 if i == deepest else min(4, room - len(points)))})
+        ranges = [(RANGE, lo + BASE * hi, 0, rng.randint(1, clock)) for lo, hi in spans]
+        stamps = [r[3] for r in points + ranges if r[0] != PUT]
+        owed = rng.randint(1, min(stamps)) if stamps else rng.choice((0, clock)) if points and i < deepest else 0
+        levels[4 * (i + 1):4 * (i + 2)] = [lay(points), lay(ranges), len(points) + len(ranges), owed]
+    entries[0] = lay([(0, 0, 0, 0)] * len(order))
+    return entries, levels
+
+
+def damage(rng, entries, levels):
+    """One or two words changed, two links exchanged, or words cut off."""
+    entries, levels = list(entries), list(levels)
+    for _ in range(rng.randint(1, 2)):
+        words = rng.choice((entries, levels))
+        at = rng.randrange(len(words))
+        near = rng.randrange(len(entries) // 4 + 1)
+        words[at] = rng.choice((near, words[at] ^ 1 << rng.randrange(32), 0, (words[at] + 1) % (1 << 32), words[at] // BASE * BASE + near, rng.getrandbits(32)))
+    if rng.random() < 0.2:
+        a, b = (4 * rng.randrange(len(entries) // 4) for _ in range(2))
+        entries[a], entries[b] = entries[b], entries[a]
+    if rng.random() < 0.05:
+        words = rng.choice((entries, levels))
+        del words[rng.randrange(len(words)):]
+    return entries, levels

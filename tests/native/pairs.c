@@ -1,0 +1,84 @@
+/* Every call on the archive and on plain C: answers, unchanged words, and levels compared. */
+#include "pairs.h"
+
+#include "counts.h"
+#include "native_check.h"
+#include "scans.h"
+
+#include <stdio.h>
+#include <stdlib.h>
+#include <string.h>
+
+const char *const kind_names[KINDS] = {"make", "check", "lookup", "scan", "put", "delete", "delete_range", "flush", "tick"};
+
+void fail(const char *what, const struct pair *p, const struct call *c) {
+    printf("FAILED: %s\n", what);
+    printf("  %s, clock %u, lo %u, hi %u, tally %u, rows %zu, settings %u %u %u %u\n", kind_names[c->kind], c->clock, c->lo, c->hi, c->tally, c->row_count,
+           c->settings.deepest, c->settings.ratio, c->settings.buffer, c->settings.term);
+    printf("before the call:\n");
+    print_store(&p->before);
+    printf("after the proved call:\n");
+    print_store(&p->proved);
+    printf("after the native call:\n");
+    print_store(&p->native);
+    exit(1);
+}
+
+struct answer unpack(enum kind kind, uint64_t n) {
+    switch (kind) {
+    case MAKE: case CHECK: return (struct answer){(uint32_t)n, {0}};
+    case LOOKUP: return (struct answer){guontrem_lookup_refusal(n), {(uint32_t)guontrem_lookup_found(n), guontrem_lookup_tally(n), guontrem_lookup_stamp(n)}};
+    case SCAN: return (struct answer){guontrem_scan_refusal(n), {guontrem_scan_count(n), (uint32_t)guontrem_scan_more(n), guontrem_scan_next(n)}};
+    default: return (struct answer){guontrem_timed_refusal(n), {guontrem_timed_merges(n), guontrem_timed_purged(n), 0}};
+    }
+}
+
+struct answer unpack_plainly(enum kind kind, uint64_t n) {
+    uint32_t low = (uint32_t)n, high = (uint32_t)(n >> 32);
+    switch (kind) {
+    case MAKE: case CHECK: return (struct answer){low, {0}};
+    case LOOKUP: return high == 0 ? (struct answer){low, {0}} : (struct answer){0, {1, low, high}};
+    case SCAN: return (struct answer){high >> 24, {low, high >> 16 & 0xff, high & 0xffff}};
+    default: return (struct answer){high >> 8, {high & 0xff, low, 0}};
+    }
+}
+
+struct pair new_pair(size_t entry_words, size_t level_words) {
+    return (struct pair){new_store(entry_words, level_words), new_store(entry_words, level_words), new_store(entry_words, level_words)};
+}
+
+void free_pair(struct pair *p) {
+    free_store(&p->proved);
+    free_store(&p->native);
+    free_store(&p->before);
+}
+
+static struct answer call_both(const struct pair *p, const struct call *c) {
+    uint64_t expected = native_call(&p->native, c, NULL), number = proved_call(&p->proved, c, NULL);
+    struct answer a = unpack_plainly(c->kind, expected), unpacked = unpack(c->kind, number);
+    if (number != expected) fail("the answers differ", p, c);
+    if (memcmp(&unpacked, &a, sizeof a) != 0) fail("the header reads another answer", p, c);
+    return a;
+}
+
+static void compare_tables(const struct pair *p, const struct call *c, uint32_t refusal) {
+    if (!guards_hold(&p->proved)) fail("a word beside the tables was written", p, c);
+    if (c->kind == CHECK || c->kind == LOOKUP || c->kind == SCAN || (refusal != 0 && refusal != GUONTREM_FULL)) {
+        if (!same_words(&p->proved, &p->before)) fail("a word of the tables was written", p, c);
+        return;
+    }
+    const struct store *s = &p->proved;
+    if (native_check(s->entries, s->entry_words, s->levels, s->level_words) != 0) fail("the tables are no longer sound", p, c);
+    uint32_t clock = c->kind == MAKE ? 0 : refusal == 0 ? c->clock : p->before.entries[1];
+    if (s->entries[1] != clock) fail("the last clock is another", p, c);
+    const char *what = difference(s, &p->native);
+    if (what != NULL) fail(what, p, c);
+}
+
+struct answer run_both(struct pair *p, const struct call *c) {
+    copy_words(&p->before, &p->proved);
+    struct answer a = c->kind == SCAN ? scan_both(p, c) : call_both(p, c);
+    compare_tables(p, c, a.refusal);
+    count_call(c->kind, a);
+    return a;
+}

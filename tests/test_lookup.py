@@ -1,0 +1,54 @@
+"""Lookups by the proved library on tables of every kind, against the plain text of document 01."""
+import random
+import unittest
+
+import library
+import tables
+from example import ENTRIES, LEVELS, changed
+from loads import damage, random_tables
+
+
+class Lookup(unittest.TestCase):
+    # Level 1 deletes 7 and 20 to 29 and holds 8; level 2 has older puts of 8 and 25 and one of 30; the deepest has one of 7.
+    entries = ENTRIES[:20] + [65542, 524296, 70, 1, 65543, 1638425, 71, 1, 65536, 1966110, 72, 1, 65536, 458759, 73, 1]
+    levels = LEVELS[:12] + [5, 0, 3, 0, 8, 0, 1, 0]
+    entries[0] = 0
+
+    def test_levels_decide_from_the_first(self):
+        for name, docket, found in (
+                ("in the buffer", 9, (0, 1, 90, 4)),
+                ("in level 1, above an older put", 8, (0, 1, 80, 1)),
+                ("deleted above a put", 7, (0, 0, 0, 0)),
+                ("in a range above a put", 25, (0, 0, 0, 0)),
+                ("past the range", 30, (0, 1, 72, 1)),
+                ("never put", 0, (0, 0, 0, 0)),
+                ("never put, the last", 65535, (0, 0, 0, 0))):
+            with self.subTest(name):
+                self.assertEqual(library.lookup(self.entries, self.levels, docket), found)
+
+    def test_refusals_in_their_order(self):
+        unsound = changed(ENTRIES, 3, 1)
+        for e, l, docket, number in (
+                (ENTRIES, LEVELS, 65536, 4), (ENTRIES, LEVELS, 4294967295, 4), (unsound, LEVELS, 65536, 3), (unsound, LEVELS, 7, 3),
+                (unsound, LEVELS[:19], 65536, 2), (ENTRIES[:27], LEVELS[:19], 65536, 1), ([], [], 7, 1)):
+            self.assertEqual(library.lookup(e, l, docket), (number, 0, 0, 0))
+
+
+class Random(unittest.TestCase):
+    def test_against_the_text(self):
+        seed = random.randrange(1 << 32)
+        rng, met = random.Random(seed), {}
+        for _ in range(4000):
+            entries, levels = random_tables(rng)
+            for e, l in [(entries, levels)] + [damage(rng, entries, levels) for _ in range(4)]:
+                docket = rng.choice([rng.randrange(30)] * 8 + [65535, 65536])
+                expected = tables.lookup(e, l, docket)
+                met[expected[:2]] = met.get(expected[:2], 0) + 1
+                self.assertEqual(library.lookup(e, l, docket), expected, f"seed {seed}: {e} {l} {docket}")
+        self.assertEqual(set(met), {(0, 0), (0, 1), (1, 0), (2, 0), (3, 0), (4, 0)}, f"seed {seed}: an outcome was not met")
+        print(f"seed {seed}: {sum(met.values())} tables; {met[(0, 1)]} found, {met[(0, 0)]} absent, "
+              + ", ".join(f"{met[(n, 0)]} refused {n}" for n in (1, 2, 3, 4)))
+
+
+if __name__ == "__main__":
+    unittest.main()
