@@ -23,6 +23,7 @@ const PUT: u32 = 1;
 pub fn act(e: &mut [u32], l: &mut [u32], clock: u32, w: Record) -> bool
     requires { ⌜ Exists (λ g. Laid g (now e) (now l) × (g .time ≡ clock)) ⌝ }
     requires { ⌜ 1 ≤ clock ⌝ }
+    requires { ⌜ Exists (λ (v : Write ℕ). (w ≡ record-of v) × (bad-docket (written v) ≡ false)) ⌝ }
     ensures { λ r. ⌜ ((g : Store) (v : Write ℕ) → Laid g (now (e .entry)) (now (l .entry)) → g .time ≡ clock → w ≡ record-of v → bad-docket (written v) ≡ false
         → Acted g v (now (e .entry)) (now (l .entry)) (now (e .exit)) (now (l .exit)) r) ⌝ }
 {

@@ -13,10 +13,9 @@ use Rattle.model.specs.Calls.{Op, written, flush, tick, Call, bad-docket, bad-c
 use Rattle.model.specs.Erasure.{accepted}
 use Rattle.model.proofs.Numbers.{most-merges, merges-most}
 use Rattle.model.proofs.Demands as model
-use Rattle.tables.specs.Words.{slots-of}
+use Rattle.tables.specs.Words.{Fits32, slots-of}
 use Rattle.tables.specs.Sound.{table-refusal}
 use Rattle.tables.specs.Placed.{read-state}
-use Rattle.tables.proofs.LevelSound.{Fits32}
 use Rattle.tables.proofs.FormedSound.{sound-words}
 use Rattle.calls.specs.Calls.{Tables, wrote, call-tables}
 use Rattle.tables.proofs.Numbers.{tables-refuse-low}

@@ -13,9 +13,8 @@ use Rattle.model.specs.Lookup.{scan}
 use Rattle.model.specs.Calls.{Call, Answer, written, refusing, bad-clock, answers}
 use Rattle.model.specs.PlainMap.{get, map-run, map-refusals, no-rows}
 use Rattle.model.specs.Erasure.{retally, Erased}
-use Rattle.tables.specs.Words.{settings-of, clock-of}
+use Rattle.tables.specs.Words.{Fits32, settings-of, clock-of}
 use Rattle.tables.specs.Sound.{table-refusal}
-use Rattle.tables.proofs.LevelSound.{Fits32}
 use Rattle.lookup.specs.Lookup.{answered, lookup-tables}
 use Rattle.scan.specs.declared.Row.{Row}
 use Rattle.scan.specs.Scan.{scan-refusal, unfilled, filled, scan-tables}

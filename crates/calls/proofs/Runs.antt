@@ -11,11 +11,10 @@ use Rattle.model.specs.Records.{State}
 use Rattle.model.specs.Calls.{Call, refusing, step, run, answers}
 use Rattle.model.specs.Erasure.{accepted}
 use Rattle.model.proofs.Demands.{refused-unchanged}
-use Rattle.tables.specs.Words.{slots-of}
+use Rattle.tables.specs.Words.{Fits32, slots-of}
 use Rattle.tables.specs.Sound.{table-refusal}
 use Rattle.tables.specs.Placed.{read-state, entry-words, level-words}
 use Rattle.tables.specs.Formed.{Formed}
-use Rattle.tables.proofs.LevelSound.{Fits32}
 use Rattle.tables.proofs.Back.{formed-holds, written-reads}
 use Rattle.tables.proofs.FormedSound.{words-sound, sound-words}
 use Rattle.tables.proofs.FormedSteps.{step-formed}

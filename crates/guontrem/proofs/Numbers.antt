@@ -4,7 +4,7 @@ use mathlib.Core.List.{List}
 use Prim.Native.Nat.{ℕ, _≤_}
 use native.Mathlib.Omega.{arith}
 use Rattle.model.specs.Calls.{Call}
-use Rattle.tables.proofs.LevelSound.{Fits32}
+use Rattle.tables.specs.Words.{Fits32}
 use Rattle.calls.specs.Calls.{Called, call-tables}
 use Rattle.calls.proofs.Bounds.{refusal-most, merges-most-12}
 use Rattle.refusals.specs.declared.Answer.{Answer}

@@ -12,7 +12,7 @@ use Rattle.model.specs.Lookup as model
 use Rattle.tables.specs.Sound.{table-refusal}
 use Rattle.tables.specs.Placed.{read-state}
 use Rattle.tables.specs.Formed.{LevelFormed}
-use Rattle.tables.proofs.LevelSound.{Fits32}
+use Rattle.tables.specs.Words.{Fits32}
 use Rattle.tables.proofs.FormedSound.{sound-words}
 use Rattle.lookup.specs.declared.Answer.{Answer}
 use Rattle.lookup.specs.declared.Answer.the-variants.{Refused, Absent, Found}

@@ -11,11 +11,10 @@ use borrow.Author.Tests.{eq-eqb, ne-eqb, eqb-false, ltb-false, lt-ltb, le-ltb}
 use Rattle.lists.proofs.Bools.{or-false-left, or-false-right, or-false}
 use Rattle.model.specs.Records.{State}
 use Rattle.model.specs.Calls.{Op, Call, Answer, refusing, bad-docket, bad-clock, refused, step}
-use Rattle.tables.specs.Words.{slots-of, clock-of}
+use Rattle.tables.specs.Words.{Fits32, slots-of, clock-of}
 use Rattle.tables.specs.Sound.{table-refusal}
 use Rattle.tables.specs.Placed.{read-state, level-words}
 use Rattle.tables.specs.Formed.{Formed}
-use Rattle.tables.proofs.LevelSound.{Fits32}
 use Rattle.tables.proofs.Back.{formed-holds}
 use Rattle.tables.proofs.FormedSound.{sound-words}
 use Rattle.tables.proofs.SoundWords.{sound-facts}

@@ -5,9 +5,8 @@ use mathlib.Core.List.{List}
 use Prim.Native.Nat.{ℕ}
 use lib.Dec.{ltb, eqb}
 use Rattle.model.specs.Calls as model
-use Rattle.tables.specs.Words.{clock-of}
+use Rattle.tables.specs.Words.{Fits32, clock-of}
 use Rattle.tables.specs.Sound.{table-refusal}
-use Rattle.tables.proofs.LevelSound.{Fits32}
 use Rattle.calls.specs.Calls.{Tables, Called}
 use Rattle.refusals.specs.declared.Answer.{Answer}
 

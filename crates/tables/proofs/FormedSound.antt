@@ -14,7 +14,7 @@ use Rattle.lists.proofs.Bools.{and-intro}
 use Rattle.lists.proofs.Tests.{all-every-true, all-append, all-every}
 use Rattle.model.specs.Records.{Entry, value, tombstone, Point, Range, Level, State, empty, is-put, held}
 use Rattle.model.specs.Merge.{point-slots, range-slots}
-use Rattle.tables.specs.Words.{Row, slots-of, clock-of, settings-of, level-row}
+use Rattle.tables.specs.Words.{Fits32, Row, slots-of, clock-of, settings-of, level-row}
 use Rattle.tables.specs.Sound.{free-chain, point-chain, range-chain, is-free, level-sound, levels-sound, record-slots, chains-sound, entries-fit, levels-fit, table-refusal}
 use Rattle.tables.specs.Placed.{free-cell, entry-kind, point-cell, range-cell, level-chains, all-chains, row-of-level, entry-words, level-words, read-level, read-state}
 use Rattle.tables.specs.Formed.{LevelFormed, levels-slots, Formed}
@@ -24,7 +24,7 @@ use Rattle.tables.proofs.Lay.{top-row}
 use Rattle.tables.proofs.LevelRows.{settings-back, length-level-words, level-row-at}
 use Rattle.tables.proofs.Reading.{free-slots-back}
 use Rattle.tables.proofs.Back.{formed-holds, holds-reads, point-cell-slots, range-cell-slots}
-use Rattle.tables.proofs.LevelSound.{LevelSound, facts-level, Fits32}
+use Rattle.tables.proofs.LevelSound.{LevelSound, facts-level}
 use Rattle.tables.proofs.SoundWords.{Sound, sound-facts, read-slots, point-read-slots, range-read-slots, read-state-level, sound-formed, sound-entries, sound-levels}
 use Rattle.tables.proofs.WordsSound.{chained-all, free-form, point-form, range-form, stamp-form, owed-form, points-order, ranges-order}
 

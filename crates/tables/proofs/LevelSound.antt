@@ -5,7 +5,7 @@ use mathlib.Core.List.{List, [], _∷_, _++_, map}
 use Prim.Native.Nat.{ℕ, _+_, _*_, _<_, _≤_}
 use native.Mathlib.Omega.{arith}
 use lib.Dec.{eqb, leb, ltb}
-use lib.ListN.{length, getD, length-append, length-map}
+use lib.ListN.{length, length-append, length-map}
 use borrow.Author.Tests.{eqb-true, eqb-false, eq-eqb, leb-true, le-leb, lt-ltb, ne-eqb, not-true}
 use Rattle.lists.specs.Lists.{none, every}
 use Rattle.lists.specs.All.{All, Ascending}
@@ -13,7 +13,7 @@ use Rattle.lists.proofs.Bools.{and-left, and-right, and-intro, or-second, or-le
 use Rattle.lists.proofs.Tests.{every-all, all-every-true, all-every, all-left, all-right, all-weaken, all-map}
 use Rattle.model.specs.Records.{value, tombstone, is-put}
 use Rattle.model.specs.Merge.{point-before, range-before}
-use Rattle.tables.specs.Words.{kind-of, lo-of, hi-of, tally-of, stamp-of, clock-of, level-row}
+use Rattle.tables.specs.Words.{Fits32, kind-of, lo-of, hi-of, tally-of, stamp-of, clock-of, level-row}
 use Rattle.tables.specs.Sound.{point-chain, range-chain, is-point, is-range, order-key, ascend, is-stamped, owed-before, level-sound}
 use Rattle.tables.specs.Placed.{read-point, read-range, read-level}
 use Rattle.tables.specs.Formed.{LevelFormed}
@@ -84,10 +84,6 @@ module _ (e l : List ℕ) (i : ℕ) where
         le-leb owed (clock-of e) (f .owed-clock),
       )
       (by-cases (none (points ++ ranges)) (λ n. or-right (not (none (points ++ ranges))) (eqb owed 0) (eq-eqb owed 0 (f .owed-empty n))) (λ n. or-left (not (none (points ++ ranges))) (eqb owed 0) (ap not n)))
-
--- Each word of the table fits 32 bits, as those of a lent slice do.
-abbrev pub Fits32 : List ℕ → Type 0
-Fits32 e = (i : ℕ) → getD e i 0 < 4294967296
 
 -- The order by key, for all pairs.
 ascend-above : (e : List ℕ) (least : ℕ) (ss : List ℕ) → ascend e least ss ≡ true → All (λ s. least ≤ order-key e s) ss

@@ -15,7 +15,7 @@ use Rattle.lists.proofs.Bools.{and-left, and-right}
 use Rattle.lists.proofs.Tests.{every-all, all-left, all-right, all-weaken}
 use Rattle.model.specs.Records.{Level, State, empty}
 use Rattle.model.specs.Merge.{point-slots, range-slots}
-use Rattle.tables.specs.Words.{Row, row-of, next-of, slots-of, clock-of, first-free, settings-of, level-row}
+use Rattle.tables.specs.Words.{Fits32, Row, row-of, next-of, slots-of, clock-of, first-free, settings-of, level-row}
 use Rattle.tables.specs.Sound.{chain-from, free-chain, point-chain, range-chain, is-free, level-sound, levels-sound, record-slots, every-slot-once, chains-sound, entries-fit, levels-fit, table-refusal}
 use Rattle.tables.specs.Placed.{Cell, free-cell, point-cell, range-cell, head, cell-row, level-chains, all-chains, row-of-level, row-words, entry-words, level-words, read-point, read-range, read-level, read-levels, read-state}
 use Rattle.tables.specs.Formed.{LevelFormed, levels-slots, Formed}
@@ -26,7 +26,7 @@ use Rattle.tables.proofs.Lay.{top-row}
 use Rattle.tables.proofs.LevelRows.{length-level-words, level-row-at}
 use Rattle.tables.proofs.Back.{formed-words}
 use Rattle.tables.proofs.Linked.{chain-linked, linked-chained, free-written, point-written, range-written}
-use Rattle.tables.proofs.LevelSound.{LevelSound, level-facts, Fits32, level-reads-formed}
+use Rattle.tables.proofs.LevelSound.{LevelSound, level-facts, level-reads-formed}
 
 -- What refusal 0 says, sentence by sentence.
 pub record Sound (e l : List ℕ) : Type 0 where

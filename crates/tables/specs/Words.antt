@@ -1,8 +1,12 @@
 -- Document 01, "The two tables": the words of a slot, "four a slot", and of a level's row.
-use Prim.Native.Nat.{ℕ, _+_, _-_, _*_, _/_, _%_}
+use Prim.Native.Nat.{ℕ, _+_, _-_, _*_, _/_, _%_, _<_}
 use mathlib.Core.List.{List}
 use lib.ListN.{length, getD, set}
 use Rattle.settings.specs.declared.Settings.{Settings}
+
+-- Every word of a table fits 32 bits, as those of a lent slice do.
+abbrev pub Fits32 : List ℕ → Type 0
+Fits32 e = (i : ℕ) → getD e i 0 < 4294967296
 
 -- The four words of a slot, or of a row of the level table.
 pub record Row : Type 0 where

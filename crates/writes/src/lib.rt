@@ -23,6 +23,7 @@ pub struct Record {
 // Whether no slot is free and the entry would free none in the buffer.
 pub fn is_crowded(e: &[u32], l: &[u32], w: Record) -> bool
     requires { ⌜ Exists (λ g. Laid g (now e) (now l)) ⌝ }
+    requires { ⌜ Exists (λ (v : Write ℕ). w ≡ record-of v) ⌝ }
     ensures { λ r. ⌜ ((g : Store) (v : Write ℕ) → Laid g (now (e .entry)) (now (l .entry)) → w ≡ record-of v → r ≡ crowded (g .time) v (g .state)) ⌝ }
 {
     if e[0] != 0 {

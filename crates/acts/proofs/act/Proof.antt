@@ -35,7 +35,7 @@ same-length-2 c = search needs
 
 returns : tie.Need-returns
 returns c g v laid t is d =
-    let low = c .before .before .before .before .before .before .before .before .before .before .before .pre .1 in
+    let low = c .before .before .before .before .before .before .before .before .before .before .before .pre .1 .0 in
     let o = c .before .before .overwrite .ensures _ (overwrite-asked laid (c .before .before .before .before .before .before .level-at .ensures)) in
     put-ends laid (rw t low) v is (c .before .before .before .before .if1 .taken) t o
 
@@ -67,7 +67,7 @@ same-length-4 c = search needs
 
 returns-2 : tie.Need-returns-2
 returns-2 c g v laid t is d =
-    let low = c .before .before .before .before .before .before .before .before .before .before .before .before .before .before .before .before .before .pre .1 in
+    let low = c .before .before .before .before .before .before .before .before .before .before .before .before .before .before .before .before .before .pre .1 .0 in
     let row = c .before .before .before .before .before .before .before .before .before .before .before .before .level-at .ensures in
     let s = c .before .before .before .before .before .before .before .before .sieve .ensures _ (wipe-asked laid row) in
     wipe-ends laid (rw t low) v is (c .before .before .before .before .before .before .before .before .before .before .if1 .left) row s (c .before .before .set-level .ensures)

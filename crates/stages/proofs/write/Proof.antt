@@ -24,7 +24,7 @@ add-before c =
 is-crowded-requires : tie.Need-is-crowded-requires
 is-crowded-requires c κs =
     let x = c .before .before .before .before .before .before .pre in let v = x .value in let b = x .has .0 in let is = x .has .1 in let w = begun-laid _ _ _ (written v) b in
-    record { value = _; has = w }
+    (record { value = _; has = w }, record { value = v; has = is })
 
 write-crowded-requires : tie.Need-write-crowded-requires
 write-crowded-requires c κs =

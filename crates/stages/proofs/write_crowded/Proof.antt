@@ -55,7 +55,7 @@ returns c = λ v k.
 act-requires : tie.Need-act-requires
 act-requires c κs =
     let x = c .before .before .before .before .before .before .before .before .before .before .before .before .before .pre in let v = x .value in let b = x .has .began in let is = x .has .write-is in let w = begun-laid _ _ _ (written v) b in
-    (record { value = _; has = (c .before .before .before .before .before .before .before .before .merge-all .ensures _ w .laid, refl) }, begun-low _ _ _ (written v) b)
+    (record { value = _; has = (c .before .before .before .before .before .before .before .before .merge-all .ensures _ w .laid, refl) }, (begun-low _ _ _ (written v) b, record { value = v; has = (is, b .dockets) }))
 
 refused-requires : tie.Need-refused-requires
 refused-requires c κs = search needs

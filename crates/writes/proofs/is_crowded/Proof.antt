@@ -16,12 +16,12 @@ returns c g v laid is = free-slot laid v is (c .if1 .taken)
 level-at-requires : tie.Need-level-at-requires
 level-at-requires c κs =
     let a = c .before .before .before .before .args in
-    let p = c .before .before .before .before .pre in
+    let p = c .before .before .before .before .pre .0 in
     omega (arith, laid-length (p .value) (a .e .now) (a .l .now) (p .has))
 
 first-doomed-requires : tie.Need-first-doomed-requires
 first-doomed-requires c κs =
-    let p = c .before .before .before .before .before .pre in
+    let p = c .before .before .before .before .before .pre .0 in
     record { value = points-of (p .value) 0; has = points-asked (p .has) 0 (omega arith) (c .level-at .ensures) }
 
 returns-2 : tie.Need-returns-2
@@ -36,7 +36,7 @@ returns-3 c g v laid is =
 
 first-doomed-requires-2 : tie.Need-first-doomed-requires-2
 first-doomed-requires-2 c κs =
-    let p = c .before .before .before .before .before .before .before .before .before .pre in
+    let p = c .before .before .before .before .before .before .before .before .before .pre .0 in
     record { value = ranges-of (p .value) 0; has = ranges-asked (p .has) 0 (omega arith) (c .before .before .before .before .level-at .ensures) }
 
 returns-4 : tie.Need-returns-4
