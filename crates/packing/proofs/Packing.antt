@@ -1,10 +1,17 @@
--- The answer of a scan as one number: its sum by 'more'.
+-- The answer of a lookup as one number, case by case, and that of a scan, its sum by 'more'.
 use mathlib.Core.Path.{_≡_}
 use mathlib.Core.Bool.{true, false}
-use Prim.Native.Nat.{_+_, _*_}
+use Prim.Native.Nat.{ℕ, _+_, _*_}
 use native.Mathlib.Omega.{arith}
+use Rattle.lookup.specs.declared.Answer.the-variants.{Refused, Found}
 use Rattle.scan.specs.declared.Scanned.{Scanned}
-use Rattle.packing.specs.Packed.{packed-scan}
+use Rattle.packing.specs.Packed.{packed, packed-scan}
+
+pub packed-refused : (n : ℕ) → n ≡ packed (Refused n)
+packed-refused n = omega arith
+
+pub packed-found : (tally stamp : ℕ) → tally + 4294967296 * stamp ≡ packed (Found tally stamp)
+packed-found tally stamp = omega arith
 
 module _ (a : Scanned) where
   pub packed-more : a .more ≡ true → a .count + 4294967296 * a .next + 281474976710656 + 72057594037927936 * a .refusal ≡ packed-scan a

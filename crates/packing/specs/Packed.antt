@@ -3,15 +3,13 @@ use mathlib.Core.Bool.{cond}
 use Prim.Native.Nat.{ℕ, _+_, _*_}
 use Rattle.model.specs.Calls as model
 use Rattle.lookup.specs.declared.Answer.{Answer}
-use Rattle.lookup.specs.declared.Answer.the-variants.{Refused, Absent, Found}
+use Rattle.lookup.specs.Lookup.{numbers}
 use Rattle.scan.specs.declared.Scanned.{Scanned}
 use Rattle.calls.specs.Calls.{Tables, Called}
 
--- A lookup's: tally and stamp in its halves, or a refusal alone.
+-- A lookup's, by document 01's numbers of it: tally and stamp in its halves; a refusal, which has neither, in the lower one.
 abbrev pub packed : Answer → ℕ
-packed (Refused n) = n
-packed Absent = 0
-packed (Found tally stamp) = tally + 4294967296 * stamp
+packed a = let n = numbers a in n .refusal + n .tally + 4294967296 * n .stamp
 
 -- A timed call's: purged in the lower half, merges from bit 32, the refusal from bit 40.
 abbrev pub answer-number : model.Answer → ℕ

@@ -1,7 +1,8 @@
 -- `packing::pack_lookup` meets its contract: each answer of the lookup goes out as its number.
-use mathlib.Core.Path.{sym, ap}
+use mathlib.Core.Path.{sym, ap, _∙_}
 use borrow.Author.Needs.{needs}
 use Rattle.packing.specs.Packed.{packed}
+use Rattle.packing.proofs.Packing.{packed-refused, packed-found}
 use Rattle.packing.proofs.pack_lookup.Statement.{statement}
 use Rattle.packing.proofs.pack_lookup.Tie as tie
 
@@ -30,13 +31,13 @@ add-result : tie.Need-add-result
 add-result c = search needs
 
 returns : tie.Need-returns
-returns c = sym (ap packed (c .before .answer .given .1))
+returns c = packed-refused _ ∙ sym (ap packed (c .before .answer .given .1))
 
 returns-2 : tie.Need-returns-2
 returns-2 c = sym (ap packed (c .enum-told .given .1))
 
 returns-3 : tie.Need-returns-3
-returns-3 c = sym (ap packed (c .before .answer2 .given .1))
+returns-3 c = packed-found _ _ ∙ sym (ap packed (c .before .answer2 .given .1))
 
 pub pack-lookup-spec : {M : Type 1} → statement M
 pack-lookup-spec =
