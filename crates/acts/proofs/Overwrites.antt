@@ -10,7 +10,7 @@ use lib.ListN.{length, set, length-set}
 use lib.Seq.{getD-set-same, getD-set-other}
 use Rattle.settings.specs.Limits.{within}
 use Rattle.lists.specs.Lists.{select}
-use Rattle.lists.proofs.Bools.{by-cases}
+use Rattle.lists.proofs.Bools.{by-cases, eqb-sym}
 use Rattle.lists.proofs.Tests.{all-right, all-weaken, append-map, select-none}
 use Rattle.model.specs.Records.{Entry, value, tombstone, Point, is-put}
 use Rattle.model.specs.Merge.{names}
@@ -32,7 +32,6 @@ use Rattle.join.proofs.Spans.{within-one}
 use Rattle.join.proofs.Points.{Keyed, point-lo}
 use Rattle.acts.specs.Acting.{PointsHeld, Overwritten}
 use Rattle.acts.specs.Acting as acting
-use Rattle.writes.proofs.Dooms.{eqb-swap}
 use Rattle.acts.proofs.Named.{Named, find-named, named-first, written-over, untouched, overwritten}
 
 -- The third word of a row changed.
@@ -87,7 +86,7 @@ module _ {g : acting.Points} {e : List ℕ} {first : ℕ} (h : PointsHeld g e fi
     -- The cells that the search stops at are those of the docket's points.
     chosen : select (doomed (Points k k)) (map point-cell (g .points)) ≡ map point-cell (select (λ p. eqb (p .key) k) (g .points))
     chosen = select-map-where point-cell (doomed (Points k k)) (λ p. eqb (p .key) k) (g .points)
-        (all-weaken Keyed _ (λ p low. ap (λ (n : ℕ). within k n k) (point-lo p low) ∙ within-one k (p .key) ∙ eqb-swap k (p .key)) (g .points) (h .keys))
+        (all-weaken Keyed _ (λ p low. ap (λ (n : ℕ). within k n k) (point-lo p low) ∙ within-one k (p .key) ∙ eqb-sym k (p .key)) (g .points) (h .keys))
 
     module _ {s : ℕ} (found : s ≡ head (select (doomed (Points k k)) (map point-cell (g .points)))) where
       s-is : s ≡ head (map point-cell (select (λ p. eqb (p .key) k) (g .points)))

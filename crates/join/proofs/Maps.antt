@@ -5,11 +5,7 @@ use mathlib.Core.List.{List, [], _∷_, map}
 use Rattle.lists.specs.Lists.{any, select, reject, merge}
 use Rattle.lists.specs.All.{All, Ascending}
 use Rattle.lists.proofs.Bools.{cond-ap}
-use Rattle.lists.proofs.Tests.{all-map, all-weaken}
-
-all-both : {X : Type 0} (P Q R : X → Type 0) → ((x : X) → P x → Q x → R x) → (xs : List X) → All P xs → All Q xs → All R xs
-all-both P Q R h [] a b = tt
-all-both P Q R h (x ∷ xs) a b = (h x (a .0) (b .0), all-both P Q R h xs (a .1) (b .1))
+use Rattle.lists.proofs.Tests.{all-both, all-map, all-weaken}
 
 -- A test of the images that is another test of the elements.
 module _ {X Y : Type 0} (f : X → Y) (t : Y → Bool) (u : X → Bool) where

@@ -1,6 +1,9 @@
 -- Laws of Bool and of a choice by one.
 use mathlib.Core.Path.{_≡_, refl, sym, _∙_}
 use mathlib.Core.Bool.{Bool, true, false, cond, _&&_, _||_, false≢true, true≢false}
+use Prim.Native.Nat.{ℕ}
+use borrow.Author.Tests.{eq-eqb, eqb-true}
+use lib.Dec.{eqb}
 
 -- A function goes into both branches.
 pub cond-ap {ℓ κ} : {X : Type ℓ} {Y : Type κ} (g : X → Y) (b : Bool) (x y : X) → g (cond b x y) ≡ cond b (g x) (g y)
@@ -92,3 +95,6 @@ bool-ext true true p q = refl
 bool-ext true false p q = sym (p refl)
 bool-ext false true p q = q refl
 bool-ext false false p q = refl
+
+pub eqb-sym : (a b : ℕ) → eqb a b ≡ eqb b a
+eqb-sym a b = bool-ext (eqb a b) (eqb b a) (λ h. eq-eqb b a (sym (eqb-true a b h))) (λ h. eq-eqb a b (sym (eqb-true b a h)))

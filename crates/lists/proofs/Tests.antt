@@ -1,5 +1,5 @@
 -- Laws of `any`, `select` and `All`.
-use mathlib.Core.Path.{_≡_, refl, ap}
+use mathlib.Core.Path.{_≡_, refl, sym, ap}
 use mathlib.Core.Bool.{Bool, true, false, cond, _||_, not, true≢false}
 use mathlib.Core.List.{List, [], _∷_, _++_, map, reverseAux}
 use Prim.Native.Nat.{ℕ, zero, suc, _+_}
@@ -167,6 +167,21 @@ module _ {X Y : Type 0} (f : X → Y) where
   pub all-map : (P : Y → Type 0) (xs : List X) → All (λ x. P (f x)) xs → All P (map f xs)
   all-map P [] a = tt
   all-map P (x ∷ xs) a = (a .0, all-map P xs (a .1))
+
+-- A list of no element, and its length.
+module _ {X : Type 0} where
+  pub none-of-length : (xs : List X) → length xs ≡ 0 → none xs ≡ true
+  none-of-length [] e = refl
+  none-of-length (x ∷ xs) e = absurd (omega arith)
+
+  pub length-of-none : (xs : List X) → none xs ≡ true → length xs ≡ 0
+  length-of-none [] e = refl
+  length-of-none (x ∷ xs) e = absurd (true≢false (sym e))
+
+  -- What follows from two facts of each element.
+  pub all-both : (P Q R : X → Type 0) → ((x : X) → P x → Q x → R x) → (xs : List X) → All P xs → All Q xs → All R xs
+  all-both P Q R h [] a b = tt
+  all-both P Q R h (x ∷ xs) a b = (h x (a .0) (b .0), all-both P Q R h xs (a .1) (b .1))
 
 pub map-id : {X : Type 0} (xs : List X) → map (λ x. x) xs ≡ xs
 map-id [] = refl

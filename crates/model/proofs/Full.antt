@@ -7,11 +7,11 @@ use native.Mathlib.Omega.{arith}
 use lib.Dec.{eqb}
 use lib.ListN.{length, getD, set, length-set}
 use lib.Seq.{getD-set-other}
-use borrow.Author.Tests.{eqb-true, eq-eqb, not-true}
+use borrow.Author.Tests.{eq-eqb, not-true}
 use Rattle.lists.specs.Lists.{count, none, any, reject, sum}
 use Rattle.lists.specs.All.{All, Ascending}
-use Rattle.lists.proofs.Bools.{cond-same, by-cases, and-left, and-right, and-intro, or-left, or-right, or-false, bool-ext}
-use Rattle.lists.proofs.Tests.{all-weaken, all-selected, any-same, select-none, select-never}
+use Rattle.lists.proofs.Bools.{cond-same, by-cases, and-left, and-right, and-intro, or-left, or-right, or-false, eqb-sym}
+use Rattle.lists.proofs.Tests.{none-of-length, length-of-none, all-weaken, all-selected, any-same, select-none, select-never}
 use Rattle.lists.proofs.Counting.{count-merge, count-most, count-select, sum-set, sum-le}
 use Rattle.model.specs.Records.{Entry, value, tombstone, Point, Level, State, is-put, empty, level, held, held-all}
 use Rattle.model.specs.Merge.{covered, names, point-before, range-goes, point-goes, merged, settled, joined}
@@ -26,17 +26,6 @@ use Rattle.model.proofs.Numbers.{merge-all-free}
 use Rattle.model.proofs.Lookups.{find-unnamed}
 use Rattle.model.proofs.Deepest.{only, only-level, lookup-only, held-only, Drained, merge-all-drained}
 use Rattle.model.proofs.LookupSteps.{merge-all-lookup}
-
-pub eqb-sym : (a b : ℕ) → eqb a b ≡ eqb b a
-eqb-sym a b = bool-ext (eqb a b) (eqb b a) (λ h. eq-eqb b a (sym (eqb-true a b h))) (λ h. eq-eqb a b (sym (eqb-true b a h)))
-
-none-of-length : {X : Type 0} (xs : List X) → length xs ≡ 0 → none xs ≡ true
-none-of-length [] e = refl
-none-of-length (x ∷ xs) e = absurd (omega arith)
-
-length-of-none : {X : Type 0} (xs : List X) → none xs ≡ true → length xs ≡ 0
-length-of-none [] e = refl
-length-of-none (x ∷ xs) e = absurd (false≢true e)
 
 put-found : {A : Type 0} (e : Entry A) (t : ℕ) → is-put e ≡ true → is-found (reads e t) ≡ true
 put-found (value a) t h = refl

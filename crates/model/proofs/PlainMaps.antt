@@ -11,7 +11,7 @@ use Rattle.settings.specs.declared.Settings.{Settings}
 use Rattle.settings.specs.Limits.{allowed}
 use Rattle.lists.specs.Lists.{any, select, reject}
 use Rattle.lists.specs.All.{All, Ascending}
-use Rattle.lists.proofs.Bools.{cond-ap, cond-elim, by-cases, both-false, and-left, and-right, and-intro, or-left, or-right, or-false-intro, bool-ext}
+use Rattle.lists.proofs.Bools.{cond-ap, cond-elim, by-cases, both-false, and-left, and-right, and-intro, or-left, or-right, or-false-intro, bool-ext, eqb-sym}
 use Rattle.lists.proofs.Tests.{any-map, any-same, any-select, any-select-weaken, all-weaken, all-map}
 use Rattle.lists.proofs.Counting.{Distinct, pigeonhole}
 use Rattle.model.specs.Records.{Point, Level, State, empty, fresh}
@@ -27,7 +27,7 @@ use Rattle.model.proofs.Slots.{Whole, step-whole, fresh-whole}
 use Rattle.model.proofs.StepView.{worked, accepted-outcome, StepView, refused-4, refused-5, refused-7, passed, step-view}
 use Rattle.model.proofs.Lookups.{lookup-empty}
 use Rattle.model.proofs.LookupSteps.{after-op, after-op-same, merge-all-lookup, pass-lookup, prepared-lookup}
-use Rattle.model.proofs.Full.{eqb-sym, puts-found, found-named, names-own, Bottom, bottom, live-slots, full-live, live-full}
+use Rattle.model.proofs.Full.{puts-found, found-named, names-own, Bottom, bottom, live-slots, full-live, live-full}
 
 module _ {A : Type 0} where
   abbrev pub keys : List (Row A) → List ℕ

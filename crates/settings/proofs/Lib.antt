@@ -1,5 +1,4 @@
--- The laws of the settings, a file for each definition that they speak of; Tests serves only the functions' proofs.
-mod Tests
+-- The laws of the settings, a file for each definition that they speak of.
 pub mod Allowed
 pub mod Answers
 pub mod Powers

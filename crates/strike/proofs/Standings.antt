@@ -4,7 +4,7 @@ use mathlib.Core.List.{List, [], _∷_, _++_, map, append-assoc}
 use Prim.Native.Nat.{ℕ, _≤_}
 use lib.Dec.{ltb}
 use Rattle.lists.specs.All.{All}
-use Rattle.lists.proofs.Tests.{all-every, append-map}
+use Rattle.lists.proofs.Tests.{all-both, all-every, append-map}
 use Rattle.tables.specs.Words.{hi-of}
 use Rattle.tables.specs.Sound.{chain-from}
 use Rattle.tables.specs.Placed.{Cell, head}
@@ -23,10 +23,6 @@ use Rattle.strike.proofs.Suffixes.{Suffix, drop-while-suffix, suffix-al
 first-cell : (e ss : List ℕ) → head (map (cell-at e) ss) ≡ first-slot ss
 first-cell e [] = refl
 first-cell e (s ∷ ss) = refl
-
-all-from : {X : Type 0} (P Q R : X → Type 0) → ((x : X) → P x → Q x → R x) → (xs : List X) → All P xs → All Q xs → All R xs
-all-from P Q R h [] p q = tt
-all-from P Q R h (x ∷ xs) p q = (h x (p .0) (q .0), all-from P Q R h xs (p .1) (q .1))
 
 pub standing-begins : {cells lower : List Cell} {at : ℕ} → at ≡ head cells → Standing cells lower at
 standing-begins {cells} {lower} is = record {
@@ -86,6 +82,6 @@ module _ {n clock : ℕ} {free : List ℕ} {cells lower : List Cell} {others : L
             ∙ ap (λ (cs : List Cell). st .passed ++ cs) (sym (append-map (cell-at e) (skipped .before) (chain-from e at′)) ∙ ap (map (cell-at e)) (skipped .whole) ∙ rest-cells)
             ∙ st .whole;
         at-is = is ∙ ap first-slot (sym chain-left) ∙ sym (first-cell e (chain-from e at′));
-        says = all-from (λ c. k ≤ cell-lo c) (λ c. any-over (st .rest) (cell-lo c) ≡ any-over cells (cell-lo c)) (λ c. any-over left (cell-lo c) ≡ any-over cells (cell-lo c))
+        says = all-both (λ c. k ≤ cell-lo c) (λ c. any-over (st .rest) (cell-lo c) ≡ any-over cells (cell-lo c)) (λ c. any-over left (cell-lo c) ≡ any-over cells (cell-lo c))
             (λ c le q. left-over (cell-lo c) le ∙ q) lower low (st .says);
       }

@@ -8,10 +8,9 @@ use lib.Dec.{eqb}
 use lib.ListN.{length, getD, length-append, length-map}
 use borrow.Author.Tests.{eq-eqb, le-leb}
 use Rattle.settings.specs.declared.Settings.{Settings}
-use Rattle.lists.specs.Lists.{none}
 use Rattle.lists.specs.All.{All}
 use Rattle.lists.proofs.Bools.{and-intro}
-use Rattle.lists.proofs.Tests.{all-every-true, all-append, all-every}
+use Rattle.lists.proofs.Tests.{length-of-none, all-every-true, all-append, all-every}
 use Rattle.model.specs.Records.{Entry, value, tombstone, Point, Range, Level, State, empty, is-put, held}
 use Rattle.model.specs.Merge.{point-slots, range-slots}
 use Rattle.tables.specs.Words.{Fits32, Row, slots-of, clock-of, settings-of, level-row}
@@ -127,10 +126,6 @@ module _ (n : ℕ) (p : State ℕ ℕ) (f : Formed n p) (e : List ℕ) (h : Hold
     put-one (value a) q = q
     put-one tombstone q = refl
 
-    none-length : (xs : List ℕ) → none xs ≡ true → length xs ≡ 0
-    none-length [] q = refl
-    none-length (x ∷ xs) q = let z : _≡_ {A = ℕ} 0 1 = cc in absurd (omega arith)
-
     pub level-is-sound : LevelSound e (level-words p) i
     level-is-sound = record {
       point-forms = rw points≡ (chained-all n e small point-cell _ (λ q. q .key ≤ 65535) (λ q k l m r. point-form n e small q k l m r) (v .points) (g .keys) cp);
@@ -145,7 +140,7 @@ module _ (n : ℕ) (p : State ℕ ℕ) (f : Formed n p) (e : List ℕ) (h : Hold
           (chained-all n e small range-cell _ (λ q. (1 ≤ v .owed) × (v .owed ≤ q .stamp)) (λ q k l m r. owed-form n e small (range-cell q) (v .owed) k l (λ z. m) r) (v .ranges) (g .owed-ranges) cr));
       number = number≡ ∙ sym lengths ∙ rw (points≡, ranges≡);
       owed-clock = rw (owed≡, clock≡) (g .owed-clock);
-      owed-empty = rw (points≡, ranges≡, owed≡) (λ q. g .owed-empty (sym lengths ∙ none-length (cell-slots (map point-cell (v .points)) ++ cell-slots (map range-cell (v .ranges))) q));
+      owed-empty = rw (points≡, ranges≡, owed≡) (λ q. g .owed-empty (sym lengths ∙ length-of-none (cell-slots (map point-cell (v .points)) ++ cell-slots (map range-cell (v .ranges))) q));
     }
 
   slots≡ : slots-of e ≡ n

@@ -10,7 +10,7 @@ use borrow.Author.Tests.{eqb-true, eqb-false, eq-eqb, leb-true, le-leb, lt-ltb, 
 use Rattle.lists.specs.Lists.{none, every}
 use Rattle.lists.specs.All.{All, Ascending}
 use Rattle.lists.proofs.Bools.{and-left, and-right, and-intro, or-second, or-left, or-right, by-cases}
-use Rattle.lists.proofs.Tests.{every-all, all-every-true, all-every, all-left, all-right, all-weaken, all-map}
+use Rattle.lists.proofs.Tests.{none-of-length, every-all, all-every-true, all-every, all-left, all-right, all-weaken, all-map}
 use Rattle.model.specs.Records.{value, tombstone, is-put}
 use Rattle.model.specs.Merge.{point-before, range-before}
 use Rattle.tables.specs.Words.{Fits32, kind-of, lo-of, hi-of, tally-of, stamp-of, clock-of, level-row}
@@ -159,10 +159,6 @@ module _ (e l : List ℕ) (i : ℕ) (w : Fits32 e) (f : LevelSound e l i) where
       let three = eqb-true (kind-of e s) 3 (and-left (eqb (kind-of e s) 3) (eqb (tally-of e s) 0) (and-right (leb (lo-of e s) (hi-of e s)) (eqb (kind-of e s) 3 && eqb (tally-of e s) 0) h)) in
       ne-eqb (kind-of e s) 1 (omega arith)
 
-  none-of : (xs : List ℕ) → length xs ≡ 0 → none xs ≡ true
-  none-of [] q = refl
-  none-of (x ∷ xs) q = absurd (omega arith)
-
   both-ranges : (ss : List ℕ) → All (λ s. is-range e s ≡ true) ss → All (λ s. owed-before e (level-row l i .w3) s ≡ true) ss → All (λ s. (1 ≤ level-row l i .w3) × (level-row l i .w3 ≤ stamp-of e s)) ss
   both-ranges [] a b = tt
   both-ranges (s ∷ ss) a b = (owing s (b .0) (range-kind s (a .0)), both-ranges ss (a .1) (b .1))
@@ -179,5 +175,5 @@ module _ (e l : List ℕ) (i : ℕ) (w : Fits32 e) (f : LevelSound e l i) where
     owed-clock = f .owed-clock;
     owed-points = all-map (read-point e) _ ps (all-weaken _ _ (λ s h q. owing s h (put-kind s (eqb (kind-of e s) 1) refl q)) ps (all-left _ ps rs (f .owes)));
     owed-ranges = all-map (read-range e) _ rs (both-ranges rs (f .range-forms) (all-right _ ps rs (f .owes)));
-    owed-empty = λ h. f .owed-empty (none-of (ps ++ rs) (omega (arith, length-append ps rs, length-map ps (read-point e), length-map rs (read-range e))));
+    owed-empty = λ h. f .owed-empty (none-of-length (ps ++ rs) (omega (arith, length-append ps rs, length-map ps (read-point e), length-map rs (read-range e))));
   }

@@ -12,7 +12,7 @@ use Rattle.settings.specs.Limits.{within, allowed}
 use Rattle.lists.specs.Lists.{every}
 use Rattle.lists.specs.All.{All}
 use Rattle.lists.proofs.Bools.{and-left, and-right}
-use Rattle.lists.proofs.Tests.{every-all, all-left, all-right, all-weaken}
+use Rattle.lists.proofs.Tests.{map-map, every-all, all-left, all-right, all-weaken}
 use Rattle.model.specs.Records.{Level, State, empty}
 use Rattle.model.specs.Merge.{point-slots, range-slots}
 use Rattle.tables.specs.Words.{Fits32, Row, row-of, next-of, slots-of, clock-of, first-free, settings-of, level-row}
@@ -165,10 +165,6 @@ module _ (e l : List ℕ) (w : Fits32 e) (f : Sound e l) where
   unfolding n
   chain-held cell own h short i r = linked-chained (slots-of e) e cell own h (chain-from e h) (chain-linked (length e) e h (omega (arith, f .length-entries))) i r
 
-  map-through : {X : Type 0} (g : ℕ → X) (k : X → Cell) (ss : List ℕ) → map k (map g ss) ≡ map (λ s. k (g s)) ss
-  map-through g k [] = refl
-  map-through g k (s ∷ ss) = ap (_∷_ (k (g s))) (map-through g k ss)
-
   free-held : (Chained n e (map free-cell (free-chain e))) × (head (map free-cell (free-chain e)) ≡ first-free e)
   free-held = chain-held free-cell (λ s. refl) (first-free e) (omega (arith, total)) (all-left (Inside n) (free-chain e) (record-slots e l (suc deepest) 0) inside)
       (all-weaken _ _ (λ s. free-written e s) (free-chain e) (f .free-forms))
@@ -176,13 +172,13 @@ module _ (e l : List ℕ) (w : Fits32 e) (f : Sound e l) where
   points-held : (i : ℕ) → i ≤ settings-of l .deepest → length (point-chain e l i) ≤ n → All (Inside n) (point-chain e l i)
       → (Chained n e (map point-cell (map (read-point e) (point-chain e l i)))) × (head (map point-cell (map (read-point e) (point-chain e l i))) ≡ level-row l i .w0)
   points-held i k short a =
-      rw (map-through (read-point e) point-cell (point-chain e l i))
+      rw (map-map (read-point e) point-cell (point-chain e l i))
       (chain-held (λ s. point-cell (read-point e s)) (λ s. refl) (level-row l i .w0) short a (all-weaken _ _ (λ s. point-written e s) (point-chain e l i) (f .levels i k .point-forms)))
 
   ranges-held : (i : ℕ) → i ≤ settings-of l .deepest → length (range-chain e l i) ≤ n → All (Inside n) (range-chain e l i)
       → (Chained n e (map range-cell (map (read-range e) (range-chain e l i)))) × (head (map range-cell (map (read-range e) (range-chain e l i))) ≡ level-row l i .w1)
   ranges-held i k short a =
-      rw (map-through (read-range e) range-cell (range-chain e l i))
+      rw (map-map (read-range e) range-cell (range-chain e l i))
       (chain-held (λ s. range-cell (read-range e s)) (λ s. refl) (level-row l i .w1) short a (all-weaken _ _ (λ s. range-written e s) (range-chain e l i) (f .levels i k .range-forms)))
 
   -- A level's two chains, and its row.

@@ -5,11 +5,10 @@ use mathlib.Core.List.{List, map}
 use Prim.Native.Nat.{ℕ}
 use native.Mathlib.Omega.{arith}
 use lib.Dec.{eqb}
-use borrow.Author.Tests.{eqb-true, eq-eqb}
 use Rattle.settings.specs.Limits.{within}
 use Rattle.lists.specs.Lists.{select, reject}
 use Rattle.lists.specs.All.{All}
-use Rattle.lists.proofs.Bools.{bool-ext}
+use Rattle.lists.proofs.Bools.{eqb-sym}
 use Rattle.lists.proofs.Tests.{all-weaken}
 use Rattle.model.specs.Records as model
 use Rattle.model.specs.Records.{Point}
@@ -26,9 +25,6 @@ use Rattle.join.proofs.Ranges.{Spanned}
 use Rattle.writes.specs.Records.{record-of}
 use Rattle.writes.specs.declared.Record.{Record}
 use Rattle.writes.proofs.Singles.{single-goes, single-range-goes}
-
-pub eqb-swap : (a b : ℕ) → eqb a b ≡ eqb b a
-eqb-swap a b = bool-ext (eqb a b) (eqb b a) (λ h. eq-eqb b a (sym (eqb-true a b h))) (λ h. eq-eqb a b (sym (eqb-true b a h)))
 
 module _ {S : Type 0} (x : S) (t : ℕ) (v : Write ℕ) (w : Record) (is : w ≡ record-of v) where
   -- A point's cell passes the test where the write makes the point go.
@@ -48,7 +44,7 @@ module _ {S : Type 0} (x : S) (t : ℕ) (v : Write ℕ) (w : Record) (is : w ≡
   range-doomed q k s =
       ap (λ (n : ℕ). eqb n (w .lo) && eqb (cell-hi (range-cell q)) (w .hi)) (span-lo (q .lo) (q .hi) (omega (arith, s .0, s .1)))
       ∙ ap (λ (n : ℕ). eqb (q .lo) (w .lo) && eqb n (w .hi)) (span-hi (q .lo) (q .hi) (omega (arith, s .0, s .1)))
-      ∙ ap (λ (b : Bool). b && eqb (q .hi) (w .hi)) (eqb-swap (q .lo) (w .lo)) ∙ ap (λ (b : Bool). eqb (w .lo) (q .lo) && b) (eqb-swap (q .hi) (w .hi))
+      ∙ ap (λ (b : Bool). b && eqb (q .hi) (w .hi)) (eqb-sym (q .lo) (w .lo)) ∙ ap (λ (b : Bool). eqb (w .lo) (q .lo) && b) (eqb-sym (q .hi) (w .hi))
       ∙ ap (λ (r : Record). eqb (r .lo) (q .lo) && eqb (r .hi) (q .hi)) is ∙ sym (single-range-goes x t v q (ap (λ (r : Record). r .kind) (sym is) ∙ k))
 
   module _ (qs : List (model.Range ℕ)) (spans : All Spanned qs) (ranged : w .kind ≡ 3) where

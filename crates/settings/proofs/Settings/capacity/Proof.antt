@@ -2,7 +2,7 @@
 use mathlib.Core.Path.{sym, ap, _∙_}
 use borrow.Author.Needs.{needs}
 use Rattle.settings.specs.declared.Bound.the-variants.{Is}
-use Rattle.settings.proofs.Tests.{fails, holds}
+use Rattle.lists.proofs.Branches.{fails, holds}
 use Rattle.settings.proofs.Answers.{capacityOf-inner, capacityOf-outer}
 use Rattle.settings.proofs.Settings.capacity.Statement.{statement}
 use Rattle.settings.proofs.Settings.capacity.Tie as tie

@@ -1,7 +1,7 @@
 -- `settings::Settings::is_allowed` meets its contract: each test of the code is a part of `allowed`, in its order.
 use borrow.Author.Needs.{needs}
 use Rattle.settings.specs.Limits.{allowed}
-use Rattle.settings.proofs.Tests.{fails, holds}
+use Rattle.lists.proofs.Branches.{fails, holds}
 use Rattle.settings.proofs.Settings.is_allowed.Statement.{statement}
 use Rattle.settings.proofs.Settings.is_allowed.Tie as tie
 

@@ -1,7 +1,7 @@
 -- `settings::Settings::is_inner` meets its contract; once the settings are allowed, L is at least 2.
 use native.Mathlib.Omega.{arith}
 use borrow.Author.Needs.{needs}
-use Rattle.settings.proofs.Tests.{fails, holds}
+use Rattle.lists.proofs.Branches.{fails, holds}
 use Rattle.settings.proofs.Allowed.{allowed-bounds}
 use Rattle.settings.proofs.Settings.is_inner.Statement.{statement}
 use Rattle.settings.proofs.Settings.is_inner.Tie as tie

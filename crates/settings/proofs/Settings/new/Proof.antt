@@ -1,7 +1,7 @@
 -- `settings::Settings::new` meets its contract: its one test is `allowed`.
 use mathlib.Core.Path.{sym}
 use borrow.Author.Needs.{needs}
-use Rattle.settings.proofs.Tests.{fails, holds}
+use Rattle.lists.proofs.Branches.{fails, holds}
 use Rattle.settings.proofs.Answers.{checked-accepted, checked-refused}
 use Rattle.settings.proofs.Settings.new.Statement.{statement}
 use Rattle.settings.proofs.Settings.new.Tie as tie
