@@ -134,6 +134,7 @@ class Random(unittest.TestCase):
                 met[expected] = met.get(expected, 0) + 1
                 self.assertEqual(library.check(e, l), expected, f"seed {seed}: {e} {l}")
         self.assertEqual(set(met), {0, 1, 2, 3}, f"seed {seed}: an outcome was not met")
+        self.assertGreater(met[3], sum(met.values()) // 2, f"seed {seed}: single words were hardly damaged")
         print(f"seed {seed}: {sum(met.values())} tables; {met[0]} sound, " + ", ".join(f"{met[n]} refused {n}" for n in (1, 2, 3)))
 
 
