@@ -70,7 +70,7 @@ def scans_by_lookups(results):
 
 def report(results, load):
     parts = [HEAD.format(processors=os.cpu_count(), load=load), table(["Load", "What is timed"], ([f"{name}", meaning] for name, meaning in MEANINGS.items())),
-             times(results), "## A scan of all live dockets, in lookups on the same tables\n\nProved, and in brackets C.\n", scans_by_lookups(results)]
+             times(results), "## A scan of all live dockets, in lookups on the same tables\n\nProved, and in brackets C. The two loads of a cell are not timed in the same rounds: where the machine changed its speed between them, C's number changes too.\n", scans_by_lookups(results)]
     return "\n".join(parts)
 
 
