@@ -23,8 +23,9 @@ struct call {
     struct settings settings;
 };
 
+typedef uint64_t call_on(const struct store *s, const struct call *c, struct guontrem_row *rows);
+
 /* A call by the archive and the same in plain C, each answered by the archive's number; rows are for a scan alone. */
-uint64_t proved_call(const struct store *s, const struct call *c, struct guontrem_row *rows);
-uint64_t native_call(const struct store *s, const struct call *c, struct guontrem_row *rows);
+call_on proved_call, native_call;
 
 #endif

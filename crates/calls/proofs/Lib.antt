@@ -1,7 +1,4 @@
--- What is proved of the timed calls on the words; the last file has the demands.
+-- What is proved of one timed call on tables of any content, and of lists of them.
 pub mod Runs
 pub mod Refusals
-pub mod Live
 pub mod Bounds
-pub mod Made
-pub mod Demands

@@ -1,3 +1,2 @@
 -- The timed calls on the two tables.
 pub mod Calls
-pub mod Full

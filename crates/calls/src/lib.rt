@@ -1,1 +1,1 @@
-// The timed calls on the two tables as definitions, with the three demands on every word; no code.
+// The timed calls on the two tables as definitions; no code.

@@ -5,9 +5,9 @@ use Prim.Native.Nat.{ℕ, suc, _-_, _<_, _≤_}
 use native.Mathlib.Omega.{arith}
 use lib.ListN.{getD}
 use Rattle.model.specs.Records.{Level}
-use Rattle.lookup.specs.declared.Decided.{Decided}
-use Rattle.lookup.specs.declared.Decided.the-variants.{Deeper}
-use Rattle.lookup.specs.Answers.{chain-level, or-else, level-decides, levels-decide}
+use Rattle.level_lookup.specs.declared.Decided.{Decided}
+use Rattle.level_lookup.specs.declared.Decided.the-variants.{Deeper}
+use Rattle.level_lookup.specs.Answers.{chain-level, or-else, level-decides, levels-decide}
 use Rattle.cursors.specs.Cursors.{levels-from}
 
 -- What level i has to come.

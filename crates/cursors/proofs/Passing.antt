@@ -14,8 +14,8 @@ use Rattle.tables.specs.Placed.{read-point}
 use Rattle.covers.specs.Skips.{drop-while, beginning}
 use Rattle.covers.specs.Walks.{Ordered}
 use Rattle.covers.proofs.Skips.{front-chain, front-ordered, skip-says}
-use Rattle.lookup.specs.Answers.{decides, level-decides}
-use Rattle.lookup.proofs.Answers.{lookup-decides}
+use Rattle.level_lookup.specs.Answers.{decides, level-decides}
+use Rattle.level_lookup.proofs.Answers.{lookup-decides}
 use Rattle.cursors.specs.Cursors.{levels-from, coming, first-lo, next-lo, change, point-front, range-front, Ready}
 use Rattle.cursors.proofs.Filling.{Filled, changed}
 use Rattle.cursors.proofs.Looking.{level-at}

@@ -11,7 +11,7 @@ use Rattle.tables.specs.Words.{lo-of}
 use Rattle.tables.specs.Sound.{chain-from}
 use Rattle.covers.specs.Walks.{Ordered}
 use Rattle.covers.specs.Skips.{first-slot, beginning, reaching}
-use Rattle.lookup.specs.Answers.{chain-level}
+use Rattle.level_lookup.specs.Answers.{chain-level}
 use Rattle.cursors.specs.declared.Pair.{Pair}
 use Rattle.cursors.specs.declared.Lead.{Lead}
 

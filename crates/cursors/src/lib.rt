@@ -1,8 +1,8 @@
 // Cursors in the levels of the two tables: for each level the first point and the first range that are still to come.
 use covers::seek;
 use covers::skip;
-use lookup::Decided;
-use lookup::look_chains;
+use level_lookup::Decided;
+use level_lookup::look_chains;
 use rows::lo_of;
 ghost use mathlib.Core.Path.{_≡_};
 ghost use Prim.Native.Nat.{_+_, _*_, _<_, _≤_, min};
@@ -10,7 +10,7 @@ ghost use lib.ListN.{length, getD, set};
 ghost use Rattle.tables.specs.Words.{settings-of, level-row};
 ghost use Rattle.tables.specs.Sound.{chain-from};
 ghost use Rattle.covers.specs.Walks.{Ordered};
-ghost use Rattle.lookup.specs.Answers.{levels-decide};
+ghost use Rattle.level_lookup.specs.Answers.{levels-decide};
 ghost use Rattle.cursors.specs.Cursors.{coming, first-lo, change, point-front, range-front, led, leading, Ready};
 
 // Past the last docket: no record is left.

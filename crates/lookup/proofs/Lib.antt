@@ -1,6 +1,3 @@
--- Laws of the walks and of the answers.
-pub mod Answers
-pub mod Walks
+-- Laws of the levels and of the refusals.
 pub mod Levels
-pub mod Sound
 pub mod Refused

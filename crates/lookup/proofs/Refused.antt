@@ -14,7 +14,7 @@ use Rattle.tables.proofs.FormedSound.{words-sound}
 use Rattle.lookup.specs.declared.Answer.{Answer}
 use Rattle.lookup.specs.declared.Answer.the-variants.{Refused}
 use Rattle.lookup.specs.declared.Found as answer
-use Rattle.lookup.specs.Answers.{found-of}
+use Rattle.lookup.specs.Found.{found-of}
 use Rattle.lookup.specs.Lookup.{answered, lookup-tables}
 
 module _ (e l : List ℕ) (k r : ℕ) (checked : r ≡ table-refusal e l) where

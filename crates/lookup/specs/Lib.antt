@@ -1,4 +1,3 @@
--- What a lookup in the tables answers, and what it relies on.
-pub mod Answers
-pub mod Readable
+-- What a lookup in the tables answers.
+pub mod Found
 pub mod Lookup

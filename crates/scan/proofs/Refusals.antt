@@ -10,8 +10,8 @@ use Rattle.tables.specs.Sound.{table-refusal}
 use Rattle.tables.specs.Placed.{read-state}
 use Rattle.lists.proofs.Bools.{or-false-left, or-false-right}
 use Rattle.model.specs.Lookup as model
-use Rattle.lookup.specs.Readable.{Readable}
-use Rattle.lookup.proofs.Sound.{readable}
+use Rattle.level_lookup.specs.Readable.{Readable}
+use Rattle.level_lookup.proofs.Sound.{readable}
 use Rattle.sweep.specs.declared.Sweep.{Sweep}
 use Rattle.sweep.specs.Sweeps.{Sweeping, rows-from}
 use Rattle.scan.specs.Scan.{scan-refusal, Opened}

@@ -17,7 +17,7 @@ use Rattle.covers.specs.Walks.{Ordered}
 use Rattle.covers.specs.Skips.{first-slot, beginning}
 use Rattle.covers.proofs.Chains.{On, Words, chain-end, go-on}
 use Rattle.covers.proofs.Skips.{front-ordered}
-use Rattle.lookup.proofs.Walks.{points-say, points-here}
+use Rattle.level_lookup.proofs.Walks.{points-say, points-here}
 use Rattle.sweep.specs.declared.Sweep.{Sweep}
 use Rattle.cursors.specs.Cursors.{first-lo, next-lo}
 use Rattle.sweep.specs.Sweeps.{heads, moved, told, to-come, Sweeping, Stepped}

@@ -10,7 +10,7 @@ use Rattle.model.specs.Lookup.{lookup, live}
 use Rattle.tables.specs.Words.{settings-of, level-row}
 use Rattle.tables.specs.Placed.{read-state}
 use Rattle.covers.proofs.Chains.{Words}
-use Rattle.lookup.specs.Readable.{Readable}
+use Rattle.level_lookup.specs.Readable.{Readable}
 use Rattle.sweep.specs.declared.Sweep.{Sweep}
 use Rattle.cursors.specs.Cursors.{coming, change, point-front, range-front, Ready}
 use Rattle.cursors.proofs.Opening.{Opened, opened}

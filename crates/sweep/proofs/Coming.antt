@@ -15,11 +15,11 @@ use Rattle.tables.specs.Placed.{read-levels}
 use Rattle.covers.specs.Walks.{Ordered}
 use Rattle.covers.proofs.Chains.{Words, go-on}
 use Rattle.covers.proofs.Walks.{ranges-say, ranges-end, ranges-past}
-use Rattle.lookup.specs.declared.Decided.{Decided}
-use Rattle.lookup.specs.declared.Decided.the-variants.{Deeper}
-use Rattle.lookup.specs.Answers.{settle, tells}
-use Rattle.lookup.proofs.Answers.{find-decides}
-use Rattle.lookup.proofs.Walks.{points-say, points-end, points-past}
+use Rattle.level_lookup.specs.declared.Decided.{Decided}
+use Rattle.level_lookup.specs.declared.Decided.the-variants.{Deeper}
+use Rattle.level_lookup.specs.Answers.{settle, tells}
+use Rattle.level_lookup.proofs.Answers.{find-decides}
+use Rattle.level_lookup.proofs.Walks.{points-say, points-end, points-past}
 use Rattle.cursors.specs.Cursors.{levels-from, first-lo}
 
 -- Records that begin past the docket say nothing of it.

@@ -7,7 +7,7 @@ use Rattle.tables.specs.Sound.{chain-from}
 use Rattle.covers.specs.Walks.{Ordered}
 use Rattle.covers.specs.Skips.{first-slot, beginning}
 use Rattle.covers.proofs.Skips.{front-chain}
-use Rattle.lookup.proofs.Walks.{points-say}
+use Rattle.level_lookup.proofs.Walks.{points-say}
 use Rattle.cursors.specs.Cursors.{first-lo}
 use Rattle.cursors.proofs.Passing.{beginning-decides, beginning-late}
 

@@ -6,9 +6,9 @@ use Prim.Native.Nat.{ℕ, _+_, _<_, _≤_}
 use native.Mathlib.Omega.{arith}
 use Rattle.model.specs.Lookup.{absent, found, lookup}
 use Rattle.covers.proofs.Chains.{Words}
-use Rattle.lookup.specs.declared.Decided.{Decided}
-use Rattle.lookup.specs.Answers.{levels-decide, settle}
-use Rattle.lookup.proofs.Answers.{levels-settle}
+use Rattle.level_lookup.specs.declared.Decided.{Decided}
+use Rattle.level_lookup.specs.Answers.{levels-decide, settle}
+use Rattle.level_lookup.proofs.Answers.{levels-settle}
 use Rattle.sweep.specs.declared.Sweep.{Sweep}
 use Rattle.cursors.specs.Cursors.{coming, next-lo, change, point-front, range-front}
 use Rattle.cursors.proofs.Passing.{Passed, passed}

@@ -7,7 +7,7 @@ use cursors::lesser;
 use cursors::look;
 use cursors::move_to;
 use cursors::open;
-use lookup::Decided;
+use level_lookup::Decided;
 use rows::kind_of;
 use rows::stamp_of;
 use rows::tally_of;
@@ -16,7 +16,7 @@ ghost use mathlib.Core.Bool.{true, false};
 ghost use Prim.Native.Nat.{_<_, _≤_};
 ghost use Rattle.model.specs.Lookup.{lookup, live};
 ghost use Rattle.tables.specs.Placed.{read-state};
-ghost use Rattle.lookup.specs.Readable.{Readable};
+ghost use Rattle.level_lookup.specs.Readable.{Readable};
 ghost use Rattle.cursors.specs.Cursors.{next-lo};
 ghost use Rattle.sweep.specs.Sweeps.{heads, swapped, regrouped, told, over, Sweeping, Foremost, Stepped, rest, rows-from};
 

@@ -3,7 +3,7 @@ use mathlib.Core.Path.{_≡_, refl, sym, _∙_}
 use Prim.Native.Nat.{_-_, _≤_}
 use native.Mathlib.Nat.{sub-zero}
 use native.Mathlib.Omega.{arith}
-use Rattle.lookup.specs.Answers.{levels-decide}
+use Rattle.level_lookup.specs.Answers.{levels-decide}
 use Rattle.cursors.specs.Cursors.{coming}
 use Rattle.cursors.proofs.Looking.{look-from, look-none, look-next}
 use Rattle.cursors.proofs.look.Statement.{statement}

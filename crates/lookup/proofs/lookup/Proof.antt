@@ -2,9 +2,9 @@
 use mathlib.Core.Path.{sym, ap, _∙_}
 use native.Mathlib.Omega.{arith}
 use borrow.Author.Needs.{needs}
-use Rattle.lookup.specs.Answers.{found-of}
+use Rattle.lookup.specs.Found.{found-of}
 use Rattle.lookup.specs.Lookup.{answered}
-use Rattle.lookup.proofs.Sound.{readable}
+use Rattle.level_lookup.proofs.Sound.{readable}
 use Rattle.lookup.proofs.Refused.{refused-tables, refused-docket, looked-up}
 use Rattle.lookup.proofs.lookup.Statement.{statement}
 use Rattle.lookup.proofs.lookup.Tie as tie

@@ -8,15 +8,8 @@ use Rattle.model.specs.Merge.{covered}
 use Rattle.model.specs.Lookup as model
 use Rattle.tables.specs.Sound.{chain-from}
 use Rattle.tables.specs.Placed.{read-point, read-range}
-use Rattle.lookup.specs.declared.Decided.{Decided}
-use Rattle.lookup.specs.declared.Decided.the-variants.{Value, Absent, Deeper}
-use Rattle.lookup.specs.declared.Found as answer
-use Rattle.lookup.specs.declared.Found.the-variants as found
-
--- The answer, as the model gives it.
-abbrev pub found-of : answer.Found → model.Found ℕ
-found-of found.Absent = model.absent
-found-of (found.Value tally stamp) = model.found tally stamp
+use Rattle.level_lookup.specs.declared.Decided.{Decided}
+use Rattle.level_lookup.specs.declared.Decided.the-variants.{Value, Absent, Deeper}
 
 -- What a point's entry and stamp decide: a put gives its tally and its stamp, a delete means absent.
 abbrev pub tells : Entry ℕ → ℕ → Decided

@@ -3,8 +3,8 @@ use native.Mathlib.Omega.{arith}
 use borrow.Author.Tests.{eq-eqb, ne-eqb}
 use borrow.Author.Needs.{needs}
 use Rattle.tables.specs.Words.{kind-of}
-use Rattle.lookup.proofs.tell.Statement.{statement}
-use Rattle.lookup.proofs.tell.Tie as tie
+use Rattle.level_lookup.proofs.tell.Statement.{statement}
+use Rattle.level_lookup.proofs.tell.Tie as tie
 
 mul-if1 : tie.Need-mul-if1
 mul-if1 c = search needs

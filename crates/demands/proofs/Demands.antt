@@ -19,11 +19,11 @@ use Rattle.lookup.specs.Lookup.{answered, lookup-tables}
 use Rattle.scan.specs.declared.Row.{Row}
 use Rattle.scan.specs.Scan.{scan-refusal, unfilled, filled, scan-tables}
 use Rattle.scan.proofs.Words as scans
 use Rattle.calls.specs.Calls.{Tables, call-tables, tables-after, answers-tables, made-tables, refusal-number, merged-tables}
-use Rattle.calls.specs.Full.{SlotsLive}
+use Rattle.demands.specs.Full.{SlotsLive}
 use Rattle.calls.proofs.Runs as runs
 use Rattle.calls.proofs.Refusals as refusals
-use Rattle.calls.proofs.Made as made
+use Rattle.demands.proofs.Made as made
 
 -- DEMAND 1, for tables of any content. Each timed call is refused in exactly the listed cases, and a refusal "gives its number and zeros".
 module _ (w : Tables) (c : Call ℕ) where

@@ -15,8 +15,8 @@ use Rattle.tables.specs.Formed.{LevelFormed, Formed}
 use Rattle.tables.proofs.Back.{written-reads}
 use Rattle.lookup.specs.Lookup.{answered, lookup-tables}
 use Rattle.lookup.proofs.Refused.{looked-up-words}
 use Rattle.calls.specs.Calls.{words}
-use Rattle.calls.specs.Full.{points-of, finds, SlotsLive}
+use Rattle.demands.specs.Full.{points-of, finds, SlotsLive}
 
 -- All dockets of a formed state's points are dockets.
 all-keys : (t : ℕ) (ls : List (Level ℕ ℕ)) → All (LevelFormed t) ls → All (λ p. p .key ≤ 65535) (all-points ls)

@@ -8,10 +8,10 @@ use Rattle.tables.specs.Words.{next-of, lo-of}
 use Rattle.tables.specs.Sound.{chain-from}
 use Rattle.tables.specs.Placed.{read-point}
 use Rattle.covers.proofs.Chains.{On, Words, chain-end, past}
-use Rattle.lookup.specs.declared.Decided.{Decided}
-use Rattle.lookup.specs.declared.Decided.the-variants.{Deeper}
-use Rattle.lookup.specs.Answers.{tells, decides}
-use Rattle.lookup.proofs.Answers.{decides-past}
+use Rattle.level_lookup.specs.declared.Decided.{Decided}
+use Rattle.level_lookup.specs.declared.Decided.the-variants.{Deeper}
+use Rattle.level_lookup.specs.Answers.{tells, decides}
+use Rattle.level_lookup.proofs.Answers.{decides-past}
 
 -- What the points of the chain from h say of docket k.
 abbrev pub points-say : List ℕ → ℕ → ℕ → Decided

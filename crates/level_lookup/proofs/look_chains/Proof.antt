@@ -4,13 +4,13 @@ use mathlib.Core.Logic.{_⊎_, ⊎-elim}
 use native.Mathlib.Omega.{arith}
 use borrow.Author.Needs.{needs}
 use denote.Enum.Declared.{tagOf, declared}
-use Rattle.lookup.specs.declared.Decided.the-variants.{Value, Absent, Deeper}
-use Rattle.lookup.specs.declared.Decided.{Decided}
-use Rattle.lookup.specs.Answers.{or-else, chain-level}
-use Rattle.lookup.proofs.Decided.{enum}
-use Rattle.lookup.proofs.Answers.{level-by-point, level-by-range, level-deeper}
-use Rattle.lookup.proofs.look_chains.Statement.{statement}
-use Rattle.lookup.proofs.look_chains.Tie as tie
+use Rattle.level_lookup.specs.declared.Decided.the-variants.{Value, Absent, Deeper}
+use Rattle.level_lookup.specs.declared.Decided.{Decided}
+use Rattle.level_lookup.specs.Answers.{or-else, chain-level}
+use Rattle.level_lookup.proofs.Decided.{enum}
+use Rattle.level_lookup.proofs.Answers.{level-by-point, level-by-range, level-deeper}
+use Rattle.level_lookup.proofs.look_chains.Statement.{statement}
+use Rattle.level_lookup.proofs.look_chains.Tie as tie
 
 find-point-requires : tie.Need-find-point-requires
 find-point-requires c κs = search needs

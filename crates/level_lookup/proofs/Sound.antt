@@ -13,7 +13,7 @@ use Rattle.tables.proofs.Linked.{Linked}
 use Rattle.tables.proofs.SoundWords.{sound-facts}
 use Rattle.tables.proofs.SoundChains.{points-end, ranges-end}
 use Rattle.covers.specs.Walks.{Walkable}
-use Rattle.lookup.specs.Readable.{Readable}
+use Rattle.level_lookup.specs.Readable.{Readable}
 
 walkable : (n : ℕ) (e : List ℕ) → length e ≡ 4 * (n + 1) → (h : ℕ) (ss : List ℕ) → Linked e h ss → All (Inside n) ss → Walkable e h ss
 walkable n e room h [] c i = c

@@ -33,11 +33,11 @@ use Rattle.lookup.proofs.Refused.{looked-up-words}
 use Rattle.scan.specs.declared.Row.{Row}
 use Rattle.scan.specs.Scan.{filled, scan-tables}
 use Rattle.scan.proofs.Words.{scanned-words}
 use Rattle.calls.specs.Calls.{Tables, words, call-tables, made-tables, tables-after, answers-tables, merged-tables}
-use Rattle.calls.specs.Full.{SlotsLive}
+use Rattle.demands.specs.Full.{SlotsLive}
 use Rattle.calls.proofs.Runs.{words-slots, run-words, answers-words}
 use Rattle.calls.proofs.Refusals.{refused-exactly}
-use Rattle.calls.proofs.Live.{live-words}
+use Rattle.demands.proofs.Live.{live-words}
 
 seven : (b : Bool) → _≡_ {A = ℕ} (cond b 7 0) 7 → b ≡ true
 seven true q = refl

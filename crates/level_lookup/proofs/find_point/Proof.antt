@@ -5,9 +5,9 @@ use lib.ListN.{length}
 use Rattle.tables.specs.Sound.{chain-from}
 use Rattle.covers.specs.Walks.{Ordered}
 use Rattle.covers.proofs.Chains.{go-on, shorter}
-use Rattle.lookup.proofs.Walks.{points-say, points-end, points-past, points-here, points-next}
-use Rattle.lookup.proofs.find_point.Statement.{statement}
-use Rattle.lookup.proofs.find_point.Tie as tie
+use Rattle.level_lookup.proofs.Walks.{points-say, points-end, points-past, points-here, points-next}
+use Rattle.level_lookup.proofs.find_point.Statement.{statement}
+use Rattle.level_lookup.proofs.find_point.Tie as tie
 
 abbrev Inv-loop : tie.InvT-loop
 Inv-loop e head docket at₀ at = Ordered e at × (points-say e at docket ≡ points-say e head docket)

@@ -12,9 +12,9 @@ use Rattle.model.specs.Merge.{covered}
 use Rattle.model.specs.Lookup as model
 use Rattle.tables.specs.Words.{lo-of}
 use Rattle.tables.specs.Placed.{read-point}
-use Rattle.lookup.specs.declared.Decided.{Decided}
-use Rattle.lookup.specs.declared.Decided.the-variants.{Value, Absent, Deeper}
-use Rattle.lookup.specs.Answers.{tells, decides, or-else, level-decides, levels-decide, settle}
+use Rattle.level_lookup.specs.declared.Decided.{Decided}
+use Rattle.level_lookup.specs.declared.Decided.the-variants.{Value, Absent, Deeper}
+use Rattle.level_lookup.specs.Answers.{tells, decides, or-else, level-decides, levels-decide, settle}
 
 -- Records past the docket decide nothing.
 pub decides-past : (e : List ℕ) (k : ℕ) (ss : List ℕ) → All (λ s. k < lo-of e s) ss → decides (map (read-point e) ss) k ≡ Deeper

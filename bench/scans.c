@@ -1,0 +1,86 @@
+/* Times scans of all dockets beside lookups of live ones on the same tables, in the same rounds at every size, by the archive and in
+   plain C. Prints a line for each shape and size: shape, slots, microseconds a lookup and a scan proved, a scan in C, the proved scan's
+   time over C's, what a scan costs in lookups, proved and in C, and how much that is of the same at 4,000 slots. */
+#include "random.h"
+#include "tables.h"
+#include "timing.h"
+
+#include <stdio.h>
+#include <stdlib.h>
+
+enum { MOST_CALLS = 2000, ROUNDS = 41, SEED = 1 };
+
+static const char *const names[SHAPES] = {"mixed calls", "put at random", "put ascending", "two by turns", "three by turns"};
+
+static const struct size {
+    uint32_t slots, calls;
+} sizes[] = {{4000, 100}, {65535, 8}, {1000, 400}, {100, 2000}, {10, 2000}};
+
+enum { SIZES = sizeof sizes / sizeof *sizes };
+
+static uint32_t entries[SIZES][GUONTREM_ENTRY_WORDS(GUONTREM_MAX_SLOTS)], levels[SIZES][LEVEL_WORDS];
+static struct store stores[SIZES];
+static struct guontrem_row rows[GUONTREM_MAX_SLOTS];
+static struct call calls[MOST_CALLS];
+
+static struct call scan_of_all(uint32_t slots) { return draw("S", 0, 1, slots); }
+
+/* Microseconds a call; the answers are added up so that both can be compared. */
+static double run(call_on *f, const struct store *s, size_t count, uint64_t *sum) {
+    double start = microseconds();
+    for (size_t i = 0; i < count; i++) *sum = *sum * 31 + f(s, &calls[i], rows);
+    return (microseconds() - start) / (double)count;
+}
+
+static void draw_lookups(const struct store *s, const struct size *size) {
+    struct call all = scan_of_all(size->slots);
+    uint32_t live = guontrem_scan_count(native_call(s, &all, rows));
+    for (uint32_t i = 0; i < size->calls; i++) calls[i] = (struct call){.kind = LOOKUP, .lo = live == 0 ? 0 : rows[random_below(live)].docket};
+}
+
+static void draw_scans(const struct size *size) {
+    for (uint32_t i = 0; i < size->calls; i++) calls[i] = scan_of_all(size->slots);
+}
+
+struct timed {
+    double lookup, scan;
+};
+
+/* Lookups before and after the scans, so that a change of the machine's speed falls on both. */
+static struct timed time_side(call_on *f, const struct store *s, const struct size *size, uint64_t *sum) {
+    draw_lookups(s, size);
+    double before = run(f, s, size->calls, sum);
+    draw_scans(size);
+    double scan = run(f, s, size->calls, sum);
+    draw_lookups(s, size);
+    return (struct timed){(before + run(f, s, size->calls, sum)) / 2, scan};
+}
+
+static void measure(enum shape shape) {
+    static double lookup[SIZES][ROUNDS], scan[SIZES][ROUNDS], native[SIZES][ROUNDS], ratio[SIZES][ROUNDS], lookups[SIZES][ROUNDS],
+        native_lookups[SIZES][ROUNDS], growth[SIZES][ROUNDS];
+    for (size_t k = 0; k < SIZES; k++) {
+        stores[k] = (struct store){entries[k], levels[k], 0, LEVEL_WORDS};
+        fill(&stores[k], shape, sizes[k].slots);
+    }
+    for (size_t i = 0; i < ROUNDS; i++)
+        for (size_t k = 0; k < SIZES; k++) {
+            uint64_t sum = 0;
+            struct timed p = time_side(proved_call, &stores[k], &sizes[k], &sum), n = time_side(native_call, &stores[k], &sizes[k], &sum);
+            lookup[k][i] = p.lookup, scan[k][i] = p.scan, native[k][i] = n.scan, ratio[k][i] = p.scan / n.scan;
+            lookups[k][i] = p.scan / p.lookup, native_lookups[k][i] = n.scan / n.lookup, growth[k][i] = lookups[k][i] / lookups[0][i];
+        }
+    for (size_t k = 0; k < SIZES; k++) {
+        double *columns[] = {lookup[k], scan[k], native[k], ratio[k], lookups[k], native_lookups[k], growth[k]};
+        printf("%s\t%u", names[shape], sizes[k].slots);
+        for (size_t c = 0; c < sizeof columns / sizeof *columns; c++) printf("\t%.4f", median(columns[c], ROUNDS));
+        printf("\n");
+    }
+    fflush(stdout);
+}
+
+int main(void) {
+    seed_random(SEED);
+    for (int shape = 0; shape < SHAPES; shape++) measure(shape);
+    return 0;
+}

@@ -1,0 +1,2 @@
+-- What the demands say of lookups.
+pub mod Full

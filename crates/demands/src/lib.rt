@@ -1,0 +1,1 @@
+// The three demands of document 01 on every word of both tables; no code.
