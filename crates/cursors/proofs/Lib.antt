@@ -3,4 +3,3 @@ pub mod Filling
 pub mod Opening
 pub mod Looking
 pub mod Passing
-pub mod Leading

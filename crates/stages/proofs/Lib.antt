@@ -1,6 +1,3 @@
--- What each part of a timed call leaves is what the definition of the call says.
+-- What each stage of a write leaves is what the definition of the call says.
 pub mod Preparing
-pub mod Ends
-pub mod Laying
-pub mod Finishing
 pub mod Writing

@@ -23,12 +23,12 @@ use Rattle.enters.specs.Entering.{Entering}
 use Rattle.acts.specs.Acting.{Acted}
 use Rattle.merges.specs.Laid.{Laid, Worked, at-state}
 use Rattle.refusals.specs.Coded.{answer-of, lent, called, Began}
-use Rattle.stages.specs.Ending.{Ending, Ended}
+use Rattle.endings.specs.Ending.{Ending, Ended}
 use Rattle.refusals.proofs.Begun.{store, begun-formed, begun-laid}
 use Rattle.stages.proofs.Preparing.{Prepared, enters-room, enters-after, enters-after-room, acts, refused-full, merged-settings}
-use Rattle.stages.proofs.Ends.{full-called}
-use Rattle.stages.proofs.Laying.{no-free, some-free}
-use Rattle.stages.proofs.Finishing.{ending, ends, all-few, deep}
+use Rattle.endings.proofs.Ends.{full-called}
+use Rattle.endings.proofs.Laying.{no-free, some-free}
+use Rattle.endings.proofs.Finishing.{ending, ends, all-few, deep}
 
 module _ (e l : List ℕ) (t : ℕ) (v : Write ℕ) (b : Began e l t (written v)) (w : Record) (is : w ≡ record-of v) where
   abbrev p : State ℕ ℕ

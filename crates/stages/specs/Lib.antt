@@ -1,3 +1,2 @@
--- What the parts of a timed call hand on.
-pub mod Ending
+-- What the stages of a write hand on.
 pub mod Crowded

@@ -1,8 +1,9 @@
-// The stages of a timed call that was not turned away: a write up to its pass, and the pass that ends every call.
+// A write that was not turned away, stage by stage: room for it, its entry or its action on level L, and the end of the call.
 use acts::act;
+use endings::finish;
+use endings::held_all;
 use enters::enter;
 use merges::merge_all;
-use pass::pass;
 use refusals::Answer;
 use refusals::refused;
 use writes::Record;
@@ -10,14 +11,11 @@ use writes::is_crowded;
 ghost use mathlib.Core.Path.{_≡_};
 ghost use Prim.Native.Nat.{ℕ};
 ghost use Rattle.lists.specs.All.{Exists};
-ghost use Rattle.model.specs.Records.{State, held-all};
 ghost use Rattle.model.specs.Steps.{Write};
 ghost use Rattle.model.specs.Calls.{written};
-ghost use Rattle.merges.specs.Laid.{Store};
 ghost use Rattle.writes.specs.Records.{record-of};
 ghost use Rattle.calls.specs.Calls.{call-tables};
 ghost use Rattle.refusals.specs.Coded.{lent, called, Began};
-ghost use Rattle.stages.specs.Ending.{RowsAre, Ending, Ended};
 ghost use Rattle.stages.specs.Crowded.{Crowded};
 
 // The refusal where no slot is free.
@@ -52,33 +50,4 @@ fn write_crowded(e: &mut [u32], l: &mut [u32], clock: u32, w: Record, before: u3
         return refused(FULL);
     }
     finish(e, l, clock, before, merges)
-}
-
-// The pass, which ends every accepted call; then the clock, and what has gone of so many records.
-pub fn finish(e: &mut [u32], l: &mut [u32], clock: u32, before: u32, merges: u32) -> Answer
-    requires { ⌜ Exists (λ g. Ending g (now e) (now l) clock before merges) ⌝ }
-    ensures { λ r. ⌜ ((g : Store) → Ending g (now (e .entry)) (now (l .entry)) clock before merges → Ended g clock before merges (now (e .exit)) (now (l .exit)) r) ⌝ }
-{
-    let more = pass(e, l, clock);
-    e[1] = clock;
-    Answer {
-        refusal: 0,
-        merges: merges + more,
-        purged: before - held_all(l),
-    }
-}
-
-// The number of records of all levels.
-pub fn held_all(l: &[u32]) -> u32
-    requires { ⌜ Exists (λ p. RowsAre p (now l)) ⌝ }
-    ensures { λ r. ⌜ ((p : State ℕ ℕ) → RowsAre p (now (l .entry)) → r ≡ held-all (p .levels)) ⌝ }
-{
-    let rows = l[0] as usize + 1;
-    let mut held = 0;
-    let mut i = 0;
-    while i < rows {
-        held += l[4 * (i + 1) + 2];
-        i += 1;
-    }
-    held
 }

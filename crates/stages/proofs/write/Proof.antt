@@ -6,7 +6,7 @@ use borrow.Author.Needs.{needs}
 use Rattle.model.specs.Calls.{written}
 use Rattle.refusals.proofs.Begun.{begun-low, begun-laid}
 use Rattle.stages.proofs.Preparing.{enters, enters-room}
-use Rattle.stages.proofs.Laying.{laid-rows}
+use Rattle.endings.proofs.Laying.{laid-rows}
 use Rattle.stages.proofs.Writing.{pass-next, passed, entering}
 use Rattle.stages.proofs.write.Statement.{statement}
 use Rattle.stages.proofs.write.Tie as tie

@@ -4,7 +4,7 @@ use native.Mathlib.Omega.{arith}
 use borrow.Author.Needs.{needs}
 use Rattle.model.specs.Calls.{written}
 use Rattle.refusals.proofs.Begun.{begun-low, begun-laid}
-use Rattle.stages.proofs.Laying.{slot-zero}
+use Rattle.endings.proofs.Laying.{slot-zero}
 use Rattle.stages.proofs.Writing.{pass-next, passed, merges-few, entering-after, after-room, entered-after, acted, refused-7}
 use Rattle.stages.proofs.write_crowded.Statement.{statement}
 use Rattle.stages.proofs.write_crowded.Tie as tie

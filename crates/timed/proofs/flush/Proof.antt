@@ -4,8 +4,8 @@ use native.Mathlib.Omega.{arith}
 use borrow.Author.Needs.{needs}
 use Rattle.model.specs.Calls.{flush}
 use Rattle.refusals.proofs.Begun.{begun, begun-laid, away}
-use Rattle.stages.proofs.Laying.{laid-rows}
-use Rattle.stages.proofs.Finishing.{ending, ends, flushes, one-few, deep}
+use Rattle.endings.proofs.Laying.{laid-rows}
+use Rattle.endings.proofs.Finishing.{ending, ends, flushes, one-few, deep}
 use Rattle.timed.proofs.flush.Statement.{statement}
 use Rattle.timed.proofs.flush.Tie as tie
 

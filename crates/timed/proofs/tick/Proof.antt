@@ -4,8 +4,8 @@ use native.Mathlib.Omega.{arith}
 use borrow.Author.Needs.{needs}
 use Rattle.model.specs.Calls.{tick}
 use Rattle.refusals.proofs.Begun.{begun, begun-laid, away}
-use Rattle.stages.proofs.Laying.{laid-rows}
-use Rattle.stages.proofs.Finishing.{ending, ends, ticks}
+use Rattle.endings.proofs.Laying.{laid-rows}
+use Rattle.endings.proofs.Finishing.{ending, ends, ticks}
 use Rattle.timed.proofs.tick.Statement.{statement}
 use Rattle.timed.proofs.tick.Tie as tie
 

@@ -1,8 +1,8 @@
 -- `cursors::lead_next` meets its contract: each way out is a branch of the definition.
 use borrow.Author.Needs.{needs}
 use borrow.Author.Tests.{lt-ltb, le-ltb}
-use Rattle.cursors.proofs.lead_next.Statement.{statement}
-use Rattle.cursors.proofs.lead_next.Tie as tie
+use Rattle.leads.proofs.lead_next.Statement.{statement}
+use Rattle.leads.proofs.lead_next.Tie as tie
 
 lesser-requires : tie.Need-lesser-requires
 lesser-requires c κs = search needs

@@ -15,10 +15,10 @@ use Rattle.calls.specs.Calls.{call-tables}
 use Rattle.refusals.specs.declared.Answer.{Answer}
 use Rattle.merges.specs.Laid.{Store, Laid, Worked, at-state}
 use Rattle.refusals.specs.Coded.{lent, called, Began}
-use Rattle.stages.specs.Ending.{RowsAre, Ending, Ended}
+use Rattle.endings.specs.Ending.{RowsAre, Ending, Ended}
 use Rattle.refusals.proofs.Begun.{store, begun-formed}
-use Rattle.stages.proofs.Ends.{enough, ended-called}
-use Rattle.stages.proofs.Laying.{laid-rows, clocked}
+use Rattle.endings.proofs.Ends.{enough, ended-called}
+use Rattle.endings.proofs.Laying.{laid-rows, clocked}
 
 -- The clock stands in the entry table alone.
 timed-levels : (t : ℕ) (p : State ℕ ℕ) → level-words (timed t p) ≡ level-words p

@@ -1,7 +1,7 @@
 -- `cursors::key_at` meets its contract: a chain is empty, or begins with its first slot.
 use Rattle.covers.proofs.Chains.{chain-end, go-on}
-use Rattle.cursors.proofs.key_at.Statement.{statement}
-use Rattle.cursors.proofs.key_at.Tie as tie
+use Rattle.leads.proofs.key_at.Statement.{statement}
+use Rattle.leads.proofs.key_at.Tie as tie
 
 returns : tie.Need-returns
 returns c = rw (chain-end (c .before .before .args .e .now) (c .before .before .args .slot) (c .if1 .taken))

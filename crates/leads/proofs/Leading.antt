@@ -10,9 +10,10 @@ use lib.Dec.{eqb, ltb}
 use Rattle.lists.specs.Lists.{iterate}
 use Rattle.lists.proofs.Bools.{by-cases, cond-elim}
 use Rattle.lists.proofs.Loops.{iterate-holds}
-use Rattle.cursors.specs.declared.Lead.{Lead}
-use Rattle.cursors.specs.declared.Pair.{Pair}
-use Rattle.cursors.specs.Cursors.{next-lo, led, leading}
+use Rattle.leads.specs.declared.Lead.{Lead}
+use Rattle.leads.specs.declared.Pair.{Pair}
+use Rattle.cursors.specs.Cursors.{next-lo}
+use Rattle.leads.specs.Leads.{led, leading}
 
 -- Of n levels, two: one with the least key to come, which is alone before the bound, and a second; before its reach no other level has a point, and no level above
 -- either of them a range.

@@ -16,8 +16,8 @@ use Rattle.tables.proofs.Cells.{Chained, AllChained}
 use Rattle.tables.proofs.Back.{formed-words}
 use Rattle.tables.proofs.LevelRows.{level-row-at, length-level-words, settings-back}
 use Rattle.merges.specs.Laid.{Store, Laid}
-use Rattle.stages.specs.Ending.{RowsAre}
-use Rattle.stages.proofs.Ends.{formed-whole}
+use Rattle.endings.specs.Ending.{RowsAre}
+use Rattle.endings.proofs.Ends.{formed-whole}
 
 module _ (g : Store) (e l : List ℕ) (w : Laid g e l) where
   -- The first free slot is 0 exactly where none is free.

@@ -24,7 +24,7 @@ use Rattle.calls.specs.Calls.{wrote, call-tables}
 use Rattle.refusals.specs.declared.Answer.{Answer}
 use Rattle.merges.specs.Laid.{at-state}
 use Rattle.refusals.specs.Coded.{answer-of, lent, called, Began}
-use Rattle.stages.specs.Ending.{Ended}
+use Rattle.endings.specs.Ending.{Ended}
 use Rattle.refusals.proofs.Begun.{store, begun-formed, begun-time}
 
 -- A formed state has all its slots.

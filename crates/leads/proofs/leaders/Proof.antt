@@ -3,10 +3,10 @@ use mathlib.Core.Path.{_≡_, sym, ap, _∙_}
 use Prim.Native.Nat.{_-_, _≤_}
 use native.Mathlib.Omega.{arith}
 use Rattle.lists.specs.Lists.{iterate}
-use Rattle.cursors.specs.Cursors.{pair-of, leading}
-use Rattle.cursors.proofs.Leading.{lead-step, lead-turn, lead-end}
-use Rattle.cursors.proofs.leaders.Statement.{statement}
-use Rattle.cursors.proofs.leaders.Tie as tie
+use Rattle.leads.specs.Leads.{pair-of, leading}
+use Rattle.leads.proofs.Leading.{lead-step, lead-turn, lead-end}
+use Rattle.leads.proofs.leaders.Statement.{statement}
+use Rattle.leads.proofs.leaders.Tie as tie
 
 abbrev Inv-loop : tie.InvT-loop
 Inv-loop e points ranges levels above m₀ i₀ m i =

@@ -1,11 +1,11 @@
--- `stages::held_all` meets its contract. The loop's invariant: the sum so far, with what the levels from i on hold, is what all hold.
+-- `endings::held_all` meets its contract. The loop's invariant: the sum so far, with what the levels from i on hold, is what all hold.
 use Prim.Native.Nat.{ℕ, _-_, _≤_}
 use native.Mathlib.Omega.{arith}
 use Rattle.model.specs.Records.{State}
-use Rattle.stages.specs.Ending.{RowsAre}
-use Rattle.stages.proofs.Laying.{Adds, adds-nothing, adds-one, adds-all, rows-length}
-use Rattle.stages.proofs.held_all.Statement.{statement}
-use Rattle.stages.proofs.held_all.Tie as tie
+use Rattle.endings.specs.Ending.{RowsAre}
+use Rattle.endings.proofs.Laying.{Adds, adds-nothing, adds-one, adds-all, rows-length}
+use Rattle.endings.proofs.held_all.Statement.{statement}
+use Rattle.endings.proofs.held_all.Tie as tie
 
 abbrev Inv-loop : tie.InvT-loop
 Inv-loop l rows held₀ i₀ held i =

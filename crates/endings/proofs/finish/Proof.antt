@@ -1,9 +1,9 @@
--- `stages::finish` meets its contract: the pass, the clock, and the sum.
+-- `endings::finish` meets its contract: the pass, the clock, and the sum.
 use native.Mathlib.Omega.{arith}
 use borrow.Author.Needs.{needs}
-use Rattle.stages.proofs.Finishing.{merges-fit, after-rows, held-fits, ended}
-use Rattle.stages.proofs.finish.Statement.{statement}
-use Rattle.stages.proofs.finish.Tie as tie
+use Rattle.endings.proofs.Finishing.{merges-fit, after-rows, held-fits, ended}
+use Rattle.endings.proofs.finish.Statement.{statement}
+use Rattle.endings.proofs.finish.Tie as tie
 
 pass-requires : tie.Need-pass-requires
 pass-requires c κs = let x = c .before .before .before .before .pre in record { value = x .value; has = (x .has .laid, x .has .time-is) }

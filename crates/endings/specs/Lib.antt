@@ -1,0 +1,2 @@
+-- What is handed to the end of a call, and what it leaves.
+pub mod Ending

@@ -1,0 +1,2 @@
+-- What is known of the two levels that lead.
+pub mod Leading

@@ -1,0 +1,2 @@
+-- Which two levels lead.
+pub mod Leads
