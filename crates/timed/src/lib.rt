@@ -1,17 +1,14 @@
-// The timed calls on the two tables, of any content: each is refused by its number, or acts, ends with the pass and counts.
-use merges::merge_level;
+// Put, delete and range delete on the two tables, of any content: each is refused by its number, or acts, ends with the pass and counts.
 use refusals::Answer;
 use refusals::refusal_of;
 use refusals::refused;
-use endings::finish;
-use endings::held_all;
 use stages::write;
 use writes::Record;
 ghost use mathlib.Core.Path.{_≡_};
 ghost use Prim.Native.Nat.{ℕ};
 ghost use Rattle.lists.specs.All.{Exists};
 ghost use Rattle.model.specs.Steps.{Write, put, delete, delete-range};
-ghost use Rattle.model.specs.Calls.{written, flush, tick};
+ghost use Rattle.model.specs.Calls.{written};
 ghost use Rattle.calls.specs.Calls.{call-tables};
 ghost use Rattle.writes.specs.Records.{record-of};
 ghost use Rattle.refusals.specs.Coded.{lent, called};
@@ -85,29 +82,4 @@ fn write_record(entries: &mut [u32], levels: &mut [u32], clock: u32, w: Record) 
         return refused(refusal);
     }
     write(entries, levels, clock, w)
-}
-
-// Merges the buffer, full or not, and does the pass.
-pub fn flush(entries: &mut [u32], levels: &mut [u32], clock: u32) -> Answer
-    ensures { λ r. ⌜ called (now (entries .exit)) (now (levels .exit)) r ≡ call-tables (lent (now (entries .entry)) (now (levels .entry))) (record { clock = clock; op = flush }) ⌝ }
-{
-    let refusal = refusal_of(entries, levels, clock, 0, 0);
-    if refusal != 0 {
-        return refused(refusal);
-    }
-    let before = held_all(levels);
-    let merges = merge_level(entries, levels, 0);
-    finish(entries, levels, clock, before, merges)
-}
-
-// Does the pass alone.
-pub fn tick(entries: &mut [u32], levels: &mut [u32], clock: u32) -> Answer
-    ensures { λ r. ⌜ called (now (entries .exit)) (now (levels .exit)) r ≡ call-tables (lent (now (entries .entry)) (now (levels .entry))) (record { clock = clock; op = tick }) ⌝ }
-{
-    let refusal = refusal_of(entries, levels, clock, 0, 0);
-    if refusal != 0 {
-        return refused(refusal);
-    }
-    let before = held_all(levels);
-    finish(entries, levels, clock, before, 0)
 }

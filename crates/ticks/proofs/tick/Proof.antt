@@ -1,4 +1,4 @@
--- `timed::tick` meets its contract: turned away, or the pass of the state as it was.
+-- `ticks::tick` meets its contract: turned away, or the pass of the state as it was.
 use mathlib.Core.Path.{refl, sym, _∙_}
 use native.Mathlib.Omega.{arith}
 use borrow.Author.Needs.{needs}
@@ -6,10 +6,10 @@ use Rattle.model.specs.Calls.{tick}
 use Rattle.refusals.proofs.Begun.{begun, begun-laid, away}
 use Rattle.endings.proofs.Laying.{laid-rows}
 use Rattle.endings.proofs.Finishing.{ending, ends, ticks}
-use Rattle.timed.proofs.tick.Statement.{statement}
-use Rattle.timed.proofs.tick.Tie as tie
+use Rattle.ticks.proofs.tick.Statement.{statement}
+use Rattle.ticks.proofs.tick.Tie as tie
 
--- `timed::tick` meets its contract: turned away, or the pass of the state as it was.
+-- `ticks::tick` meets its contract: turned away, or the pass of the state as it was.
 
 refusal-of-requires : tie.Need-refusal-of-requires
 refusal-of-requires c κs = search needs

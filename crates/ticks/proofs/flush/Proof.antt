@@ -1,4 +1,4 @@
--- `timed::flush` meets its contract: turned away, or the buffer merged and then the pass.
+-- `ticks::flush` meets its contract: turned away, or the buffer merged and then the pass.
 use mathlib.Core.Path.{refl, sym, _∙_}
 use native.Mathlib.Omega.{arith}
 use borrow.Author.Needs.{needs}
@@ -6,8 +6,8 @@ use Rattle.model.specs.Calls.{flush}
 use Rattle.refusals.proofs.Begun.{begun, begun-laid, away}
 use Rattle.endings.proofs.Laying.{laid-rows}
 use Rattle.endings.proofs.Finishing.{ending, ends, flushes, one-few, deep}
-use Rattle.timed.proofs.flush.Statement.{statement}
-use Rattle.timed.proofs.flush.Tie as tie
+use Rattle.ticks.proofs.flush.Statement.{statement}
+use Rattle.ticks.proofs.flush.Tie as tie
 
 refusal-of-requires : tie.Need-refusal-of-requires
 refusal-of-requires c κs = search needs
