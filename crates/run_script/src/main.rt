@@ -1,7 +1,7 @@
 // The script program of document 01: reads standard input and prints three numbers for each line.
 use libc::STDIN_FILENO;
 use libc::STDOUT_FILENO;
-use stream::Progress;
+use line_buffer::Progress;
 use stream::feed;
 use stream::finish;
 ghost use mathlib.Core.Path.{_≡_};

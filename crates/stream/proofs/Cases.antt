@@ -11,7 +11,8 @@ use Rattle.memory.specs.Memory.{Memory, Printed}
 use Rattle.script.specs.Script.{command-step, line-step}
 use Rattle.script.specs.Cases.{prints, no-store}
 use Rattle.script.proofs.Cases as script
-use Rattle.stream.specs.Input.{before-lines, lines-in, text-of, output-of}
+use Rattle.line_buffer.specs.Bytes.{text-of}
+use Rattle.stream.specs.Input.{before-lines, lines-in, output-of}
 use Rattle.stream.specs.Cases.{CaseTable, script-input, script-output}
 
 unfoldable texts : List Printed → List ℕ

@@ -13,8 +13,9 @@ use Rattle.lines.specs.Lines.{line-of}
 use Rattle.lines.proofs.Long.{long-unreadable}
 use Rattle.memory.specs.Memory.{Memory}
 use Rattle.script.specs.Script.{line-step}
-use Rattle.stream.specs.Input.{before-lines, lines-in, text-of, output-of}
-use Rattle.stream.specs.Blocks.{Standing, kept, ended, taken, fed, finished, written, writes}
+use Rattle.line_buffer.specs.Bytes.{Standing, text-of, kept, ended, taken}
+use Rattle.stream.specs.Input.{before-lines, lines-in, output-of}
+use Rattle.stream.specs.Blocks.{fed, finished, written, writes}
 
 -- The first 64 bytes of a line say what the line says.
 pub kept-says : (line : List ℕ) → line-of (take 64 line) ≡ line-of line

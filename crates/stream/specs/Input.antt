@@ -5,9 +5,9 @@ use Prim.Native.Char.{code}
 use Prim.Native.Nat.{ℕ}
 use lib.Dec.{eqb}
 use Rattle.lines.specs.Lines.{line-of}
-use Rattle.prints.specs.Texts.{numbers-text}
-use Rattle.memory.specs.Memory.{Memory, Printed}
+use Rattle.memory.specs.Memory.{Memory}
 use Rattle.script.specs.Script.{line-step}
+use Rattle.line_buffer.specs.Bytes.{text-of}
 
 -- A byte before the first of the lines, which is a line of its own if there is none.
 unfoldable pub before-lines : ℕ → List (List ℕ) → List (List ℕ)
@@ -18,10 +18,6 @@ before-lines byte (line ∷ lines) = (byte ∷ line) ∷ lines
 unfoldable pub lines-in : List ℕ → List (List ℕ)
 lines-in [] = []
 lines-in (byte ∷ rest) = cond (eqb byte (code "\n")) ([] ∷ lines-in rest) (before-lines byte (lines-in rest))
-
--- "Each line prints three numbers"
-abbrev pub text-of : Printed → List ℕ
-text-of p = numbers-text (p .first) (p .second) (p .third)
 
 -- "There is no header": what the lines print, one after the other.
 unfoldable pub output-of : Memory → List (List ℕ) → List ℕ

@@ -1,5 +1,4 @@
--- The script's input: the lines of the whole, what they print, and the same byte by byte.
+-- The script's input: the lines of the whole, what they print, and the same block by block.
 pub mod Input
 pub mod Blocks
-pub mod Room
 pub mod Cases

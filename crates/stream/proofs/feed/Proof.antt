@@ -5,7 +5,7 @@ use native.Mathlib.Omega.{arith}
 use borrow.Author.Needs.{needs}
 use lib.ListN.{length}
 use Rattle.stream.specs.Blocks.{fed}
-use Rattle.stream.specs.Room.{standing}
+use Rattle.line_buffer.specs.Room.{standing}
 use Rattle.stream.proofs.Steps.{Between, feeds-one, feeds-all}
 use Rattle.stream.proofs.feed.Statement.{statement}
 use Rattle.stream.proofs.feed.Tie as tie

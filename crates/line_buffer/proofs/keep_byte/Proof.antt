@@ -1,9 +1,9 @@
--- `stream::keep_byte` meets its contract.
+-- `line_buffer::keep_byte` meets its contract.
 use borrow.Author.Needs.{needs}
 use native.Mathlib.Omega.{arith}
-use Rattle.stream.proofs.Steps.{keep-none, keep-one}
-use Rattle.stream.proofs.keep_byte.Statement.{statement}
-use Rattle.stream.proofs.keep_byte.Tie as tie
+use Rattle.line_buffer.proofs.Steps.{keep-none, keep-one}
+use Rattle.line_buffer.proofs.keep_byte.Statement.{statement}
+use Rattle.line_buffer.proofs.keep_byte.Tie as tie
 
 returns : tie.Need-returns
 returns c =

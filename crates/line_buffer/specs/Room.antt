@@ -5,8 +5,8 @@ use Prim.Native.Nat.{ℕ, _≤_}
 use lib.ListN.{length, take}
 use Rattle.memory.specs.declared.Size.{Size}
 use Rattle.memory.specs.Coded.{Fits, memory}
-use Rattle.stream.specs.declared.Progress.{Progress}
-use Rattle.stream.specs.Blocks.{Standing}
+use Rattle.line_buffer.specs.declared.Progress.{Progress}
+use Rattle.line_buffer.specs.Bytes.{Standing}
 
 abbrev pub size-of : Progress → Size
 size-of m = record { slots = m .slots; deepest = m .deepest }

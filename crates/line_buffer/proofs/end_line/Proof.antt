@@ -1,12 +1,12 @@
--- `stream::end_line` meets its contract.
+-- `line_buffer::end_line` meets its contract.
 use mathlib.Core.Path.{sym}
 use borrow.Author.Needs.{needs}
 use native.Mathlib.Omega.{arith}
 use lib.Seq.{length-take-le}
 use Rattle.prints.proofs.Digits.{length-numbers}
-use Rattle.stream.proofs.Steps.{ends}
-use Rattle.stream.proofs.end_line.Statement.{statement}
-use Rattle.stream.proofs.end_line.Tie as tie
+use Rattle.line_buffer.proofs.Steps.{ends}
+use Rattle.line_buffer.proofs.end_line.Statement.{statement}
+use Rattle.line_buffer.proofs.end_line.Tie as tie
 
 slice-aggregate-run-line : tie.Need-slice-aggregate-run-line
 slice-aggregate-run-line c =

@@ -1,9 +1,9 @@
--- `stream::take_byte` meets its contract.
+-- `line_buffer::take_byte` meets its contract.
 use borrow.Author.Needs.{needs}
 use native.Mathlib.Omega.{arith}
-use Rattle.stream.proofs.Steps.{takes-end, takes-byte}
-use Rattle.stream.proofs.take_byte.Statement.{statement}
-use Rattle.stream.proofs.take_byte.Tie as tie
+use Rattle.line_buffer.proofs.Steps.{takes-end, takes-byte}
+use Rattle.line_buffer.proofs.take_byte.Statement.{statement}
+use Rattle.line_buffer.proofs.take_byte.Tie as tie
 
 end-line-requires : tie.Need-end-line-requires
 end-line-requires c κs = search needs

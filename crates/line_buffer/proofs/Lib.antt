@@ -1,0 +1,2 @@
+-- Laws behind the code.
+pub mod Steps
