@@ -1,4 +1,4 @@
-"""Runs the timing of whole calls, prints it as a Markdown table, and writes docs/BENCHMARK.md and docs/benchmark.svg."""
+"""Runs the timing of whole calls and of scans in lookups, prints both as Markdown tables, and writes docs/BENCHMARK.md and docs/benchmark.svg."""
 import os
 import pathlib
 import subprocess
@@ -6,7 +6,7 @@ import subprocess
 import plot
 
 ROOT = pathlib.Path(__file__).parent.parent
-PROGRAM = ROOT / "target" / "bench_calls"
+CALLS, SCANS = ROOT / "target" / "bench_calls", ROOT / "target" / "bench_scans"
 REPORT, PLOT = ROOT / "docs" / "BENCHMARK.md", ROOT / "docs" / "benchmark.svg"
 MEANINGS = {
     "mixed": "40 % puts, 10 % deletes, 5 % range deletes, 5 % flushes, 10 % ticks, 30 % lookups; half the slots' worth of dockets",
@@ -16,10 +16,6 @@ MEANINGS = {
     "full table": "80 % puts, 10 % deletes, 10 % ticks on one docket more than slots, every slot taken at the start",
     "scan": "all dockets, with a row for each slot",
     "check": "the check that every call begins with, alone",
-    "lookup, all live": "a docket, where every slot is live, in the order of puts at random",
-    "scan, all live": "all dockets of the same",
-    "lookup, by turns": "a docket, where every slot is live and the two deepest levels have the dockets by turns, so that none goes on alone",
-    "scan, by turns": "all dockets of the same",
 }
 HEAD = """# Time per call
 
@@ -32,6 +28,21 @@ this was measured the machine had {processors} processors and a load average of 
 """
 
 
+SHAPES = {
+    "mixed calls": "half the slots' worth of dockets, then as many mixed calls as slots",
+    "put at random": "every slot live, dockets put in random order",
+    "put ascending": "every slot live, dockets put in ascending order",
+    "two by turns": "every slot live, docket after docket in the two deepest levels by turns, in the order of slots: laid out, not put",
+    "three by turns": "the same in three levels",
+}
+IN_LOOKUPS = """## A scan of all live dockets, in lookups on the same tables
+
+Proved, and in brackets C. Each round goes through all sizes, and at each times lookups of live dockets, scans of all, and lookups again, on the same tables; so
+a change of the machine's speed falls on both. Medians of 41 rounds; the last column is the median of what each round found at 65,535 over what it found at
+4,000.
+"""
+
+
 class Measured:
     """One load at one size."""
 
@@ -40,12 +51,20 @@ class Measured:
         self.slots, (self.proved, self.native, self.ratio) = int(slots), map(float, times)
 
 
-def measure():
-    with subprocess.Popen([PROGRAM], stdout=subprocess.PIPE, text=True) as program:
-        for line in program.stdout:
-            yield Measured(line.rstrip("\n"))
-    if program.returncode != 0:
-        raise SystemExit(f"{PROGRAM.name} failed")
+class Scanned:
+    """Scans of one shape of tables at one size."""
+
+    def __init__(self, line):
+        self.shape, slots, *times = line.split("\t")
+        self.slots, (self.lookup, self.scan, self.native, self.ratio, self.lookups, self.native_lookups, self.growth) = int(slots), map(float, times)
+
+
+def measure(program, kind):
+    with subprocess.Popen([program], stdout=subprocess.PIPE, text=True) as running:
+        for line in running.stdout:
+            yield kind(line.rstrip("\n"))
+    if running.returncode != 0:
+        raise SystemExit(f"{program.name} failed")
 
 
 def table(head, rows):
@@ -58,26 +77,32 @@ def times(results):
     return table(["Load", "N", "Proved, µs", "C, µs", "Ratio", "Proved, ns a slot"], rows)
 
 
-def scans_by_lookups(results):
-    """How many lookups a scan of all dockets costs."""
-    found = {(r.load, r.slots): r for r in results}
-    rows = []
-    for slots in sorted({r.slots for r in results}):
-        pairs = [(found["scan" + shape, slots], found["lookup" + shape, slots]) for shape in ("", ", all live", ", by turns")]
-        rows.append([f"{slots:,}"] + [f"{scan.proved / lookup.proved:.2f} ({scan.native / lookup.native:.2f})" for scan, lookup in pairs])
-    return table(["N", "mixed calls", "all live", "by turns"], rows)
+def meanings(head, words):
+    return table(head, ([name, meaning] for name, meaning in words.items()))
 
 
-def report(results, load):
-    parts = [HEAD.format(processors=os.cpu_count(), load=load), table(["Load", "What is timed"], ([f"{name}", meaning] for name, meaning in MEANINGS.items())),
-             times(results), "## A scan of all live dockets, in lookups on the same tables\n\nProved, and in brackets C. The two loads of a cell are not timed in the same rounds: where the machine changed its speed between them, C's number changes too.\n", scans_by_lookups(results)]
+def scans_in_lookups(scans):
+    sizes = sorted({s.slots for s in scans})
+    found = {(s.shape, s.slots): s for s in scans}
+    rows = ([shape, *(f"{found[shape, n].lookups:.2f} ({found[shape, n].native_lookups:.2f})" for n in sizes), f"{found[shape, sizes[-1]].growth:.2f}"] for shape in SHAPES)
+    return table(["Tables", *(f"N = {n:,}" for n in sizes), "growth"], rows)
+
+
+def scan_times(scans):
+    rows = ([s.shape, f"{s.slots:,}", f"{s.lookup:,.3f}", f"{s.scan:,.3f}", f"{s.native:,.3f}", f"{s.ratio:.2f}"] for s in sorted(scans, key=lambda s: (list(SHAPES).index(s.shape), s.slots)))
+    return table(["Tables", "N", "Lookup, µs", "Scan, µs", "C's scan, µs", "Ratio"], rows)
+
+
+def report(results, scans, load):
+    parts = [HEAD.format(processors=os.cpu_count(), load=load), meanings(["Load", "What is timed"], MEANINGS), times(results), IN_LOOKUPS,
+             meanings(["Tables", "What they hold"], SHAPES), scans_in_lookups(scans), scan_times(scans)]
     return "\n".join(parts)
 
 
 def main():
     load = os.getloadavg()[0]
-    results = list(measure())
-    page = report(results, load)
+    results, scans = list(measure(CALLS, Measured)), list(measure(SCANS, Scanned))
+    page = report(results, scans, load)
     print(page[page.index("| Load | N"):], end="")
     REPORT.write_text(page)
     PLOT.write_text(plot.picture(results))

@@ -44,16 +44,20 @@ static void draw_scans(const struct size *size) {
 
 struct timed {
     double lookup, scan;
+    uint64_t scanned;
 };
 
 /* Lookups before and after the scans, so that a change of the machine's speed falls on both. */
-static struct timed time_side(call_on *f, const struct store *s, const struct size *size, uint64_t *sum) {
+static struct timed time_side(call_on *f, const struct store *s, const struct size *size) {
+    struct timed t = {0, 0, 0};
+    uint64_t found = 0;
     draw_lookups(s, size);
-    double before = run(f, s, size->calls, sum);
+    t.lookup = run(f, s, size->calls, &found) / 2;
     draw_scans(size);
-    double scan = run(f, s, size->calls, sum);
+    t.scan = run(f, s, size->calls, &t.scanned);
     draw_lookups(s, size);
-    return (struct timed){(before + run(f, s, size->calls, sum)) / 2, scan};
+    t.lookup += run(f, s, size->calls, &found) / 2;
+    return t;
 }
 
 static void measure(enum shape shape) {
@@ -65,8 +69,11 @@ static void measure(enum shape shape) {
     }
     for (size_t i = 0; i < ROUNDS; i++)
         for (size_t k = 0; k < SIZES; k++) {
-            uint64_t sum = 0;
-            struct timed p = time_side(proved_call, &stores[k], &sizes[k], &sum), n = time_side(native_call, &stores[k], &sizes[k], &sum);
+            struct timed p = time_side(proved_call, &stores[k], &sizes[k]), n = time_side(native_call, &stores[k], &sizes[k]);
+            if (p.scanned != n.scanned) {
+                fprintf(stderr, "%s, %u slots: the answers differ\n", names[shape], sizes[k].slots);
+                exit(1);
+            }
             lookup[k][i] = p.lookup, scan[k][i] = p.scan, native[k][i] = n.scan, ratio[k][i] = p.scan / n.scan;
             lookups[k][i] = p.scan / p.lookup, native_lookups[k][i] = n.scan / n.lookup, growth[k][i] = lookups[k][i] / lookups[0][i];
         }
