@@ -13,7 +13,7 @@ use Rattle.tables.specs.Placed.{read-state}
 use Rattle.sweep.specs.declared.Sweep.{Sweep}
 use Rattle.scan.specs.declared.Row.{Row}
 use Rattle.scan.specs.declared.Scanned.{Scanned}
-use Rattle.sweep.specs.Sweeps.{Sweeping, rest, row-found, rows-from}
+use Rattle.sweep.specs.Sweeps.{Sweeping, rest, row-found, is-live, rows-from}
 use Rattle.scan.specs.Scan.{Outcome, written, filled, scan-refusal, scan-tables, Opened, row-at, has-row, closed}
 use Rattle.scan.proofs.Filling.{so-far, length-so-far, set-so-far, drop-inside, drop-none, drop-next, take-over}
 
@@ -23,7 +23,7 @@ live-rows e l lo hi = model.live (model.lookup (read-state e l .levels)) lo hi
 
 -- After i rows the sweep m has come to the next live docket. Where the scan is refused there is none, and no row is filled.
 pub record Reached (e l : List ℕ) (lo hi : ℕ) (ys : List Row) (i : ℕ) (m : Sweep) : Type 0 where
-  pub refused : (eqb (scan-refusal e l lo hi) 0 ≡ false) → (m .live ≡ false) × (i ≡ 0)
+  pub refused : (eqb (scan-refusal e l lo hi) 0 ≡ false) → (is-live m ≡ false) × (i ≡ 0)
   pub sweeping : (eqb (scan-refusal e l lo hi) 0 ≡ true) → Sweeping e m
   pub left : (eqb (scan-refusal e l lo hi) 0 ≡ true) → drop i (live-rows e l lo hi) ≡ rows-from e m
   pub inside : i ≤ length (live-rows e l lo hi)
@@ -51,20 +51,20 @@ module _ (e l : List ℕ) (lo hi : ℕ) (ys : List Row) (i : ℕ) (m : Sweep) (h
 
   -- A turn: the docket is live and has a row.
   module _ (t : has-row m i (length ys) ≡ true) where
-    is-live : m .live ≡ true
-    is-live = and-left (m .live) (ltb i (length ys)) t
+    lives : is-live m ≡ true
+    lives = and-left (is-live m) (ltb i (length ys)) t
 
     pub has-room : i < length ys
-    has-room = ltb-true i (length ys) (and-right (m .live) (ltb i (length ys)) t)
+    has-room = ltb-true i (length ys) (and-right (is-live m) (ltb i (length ys)) t)
 
     accepted : eqb (scan-refusal e l lo hi) 0 ≡ true
-    accepted = by-cases (eqb (scan-refusal e l lo hi) 0) (λ p. p) (λ p. both-false is-live (h .refused p .0))
+    accepted = by-cases (eqb (scan-refusal e l lo hi) 0) (λ p. p) (λ p. both-false lives (h .refused p .0))
 
     pub goes-sweeping : Sweeping e m
     goes-sweeping = h .sweeping accepted
 
     coming-rows : drop i all ≡ row-found m ∷ rest e m
-    coming-rows = h .left accepted ∙ ap (λ (b : Bool). cond b (row-found m ∷ rest e m) []) is-live
+    coming-rows = h .left accepted ∙ ap (λ (b : Bool). cond b (row-found m ∷ rest e m) []) lives
 
     pub stored : set rows i (row-at m) ≡ so-far written all ys (suc i)
     stored = set-so-far written all ys i (row-found m) (rest e m) coming-rows has-room
@@ -86,22 +86,22 @@ module _ (e l : List ℕ) (lo hi : ℕ) (ys : List Row) (i : ℕ) (m : Sweep) (h
     counted : length (take i all) ≡ i
     counted = omega (arith, length-take i all, h .inside)
 
-    same : take (length ys) all ≡ take i all → ltb (length ys) (length all) ≡ m .live → model.first-key (drop (length ys) all) ≡ cond (m .live) (m .key) 0 → Filled (closed m i 0)
+    same : take (length ys) all ≡ take i all → ltb (length ys) (length all) ≡ is-live m → model.first-key (drop (length ys) all) ≡ cond (is-live m) (m .key) 0 → Filled (closed m i 0)
     unfolding model.scan
     same p q s = rw (p, q, s, counted)
 
     module _ (accept : eqb (scan-refusal e l lo hi) 0 ≡ true) where
       -- A live docket found no row.
-      ended-more : m .live ≡ true → Filled (closed m i 0)
+      ended-more : is-live m ≡ true → Filled (closed m i 0)
       ended-more live =
-          let full : i ≡ length ys = omega (arith, h .room, ltb-false i (length ys) (and-second-false (m .live) (ltb i (length ys)) t live)) in
+          let full : i ≡ length ys = omega (arith, h .room, ltb-false i (length ys) (and-second-false (is-live m) (ltb i (length ys)) t live)) in
           let coming : drop i all ≡ row-found m ∷ rest e m = h .left accept ∙ ap (λ (b : Bool). cond b (row-found m ∷ rest e m) []) live in
           same (ap (λ (k : ℕ). take k all) (sym full))
           (lt-ltb (length ys) (length all) (omega (arith, drop-inside all i (row-found m) (rest e m) coming)) ∙ sym live)
           (ap (λ (k : ℕ). model.first-key (drop k all)) (sym full) ∙ ap model.first-key coming ∙ sym (ap (λ (b : Bool). cond b (m .key) 0) live))
 
       -- Every live docket has a row.
-      ended-last : m .live ≡ false → Filled (closed m i 0)
+      ended-last : is-live m ≡ false → Filled (closed m i 0)
       ended-last none =
           let over : length all ≤ i = drop-none all i (h .left accept ∙ ap (λ (b : Bool). cond b (row-found m ∷ rest e m) []) none) in
           same (take-over all (length ys) (omega (arith, h .room)) ∙ sym (take-over all i over))
@@ -109,7 +109,7 @@ module _ (e l : List ℕ) (lo hi : ℕ) (ys : List Row) (i : ℕ) (m : Sweep) (h
           (ap model.first-key (drop-of-length-le all {i = length ys} (omega (arith, h .room))) ∙ sym (ap (λ (b : Bool). cond b (m .key) 0) none))
 
       ended-accepted : Filled (closed m i 0)
-      ended-accepted = by-cases (m .live) ended-more ended-last
+      ended-accepted = by-cases (is-live m) ended-more ended-last
 
     pub ended : (r : ℕ) → r ≡ scan-refusal e l lo hi → _≡_ {A = Outcome} (record { answer = closed m i r; rows = rows }) (scan-tables e l lo hi ys)
     unfolding scan-tables

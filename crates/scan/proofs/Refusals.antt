@@ -13,7 +13,7 @@ use Rattle.model.specs.Lookup as model
 use Rattle.level_lookup.specs.Readable.{Readable}
 use Rattle.level_lookup.proofs.Sound.{readable}
 use Rattle.sweep.specs.declared.Sweep.{Sweep}
-use Rattle.sweep.specs.Sweeps.{Sweeping, rows-from}
+use Rattle.sweep.specs.Sweeps.{Sweeping, is-live, rows-from}
 use Rattle.scan.specs.Scan.{scan-refusal, Opened}
 
 module _ (e l : List ℕ) (lo hi r : ℕ) (checked : r ≡ table-refusal e l) where
@@ -53,7 +53,7 @@ module _ (e l : List ℕ) (lo hi : ℕ) where
       rows = λ _. q;
     }
 
-    pub unopened : r ≢ 0 → m .live ≡ false → Opened e l lo hi m
+    pub unopened : r ≢ 0 → is-live m ≡ false → Opened e l lo hi m
     unopened n d = record {
       refused = λ _. d;
       sweeping = λ h. absurd (n (is ∙ eqb-true (scan-refusal e l lo hi) 0 h));

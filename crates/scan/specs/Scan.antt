@@ -11,7 +11,7 @@ use Rattle.tables.specs.Placed.{read-state}
 use Rattle.sweep.specs.declared.Sweep.{Sweep}
 use Rattle.scan.specs.declared.Row.{Row}
 use Rattle.scan.specs.declared.Scanned.{Scanned}
-use Rattle.sweep.specs.Sweeps.{Sweeping, rows-from}
+use Rattle.sweep.specs.Sweeps.{Sweeping, is-live, rows-from}
 
 -- What a scan leaves: its answer, and the caller's rows.
 pub record Outcome : Type 0 where
@@ -45,7 +45,7 @@ scan-tables e l lo hi rows =
 
 -- The sweep as the scan begins: at the first of the live dockets, or at none where the scan is refused.
 pub record Opened (e l : List ℕ) (lo hi : ℕ) (m : Sweep) : Type 0 where
-  pub refused : (eqb (scan-refusal e l lo hi) 0 ≡ false) → m .live ≡ false
+  pub refused : (eqb (scan-refusal e l lo hi) 0 ≡ false) → is-live m ≡ false
   pub sweeping : (eqb (scan-refusal e l lo hi) 0 ≡ true) → Sweeping e m
   pub rows : (eqb (scan-refusal e l lo hi) 0 ≡ true) → rows-from e m ≡ model.live (model.lookup (read-state e l .levels)) lo hi
 
@@ -53,7 +53,7 @@ abbrev pub row-at : Sweep → Row
 row-at m = record { docket = m .key; tally = m .value; stamp = m .stamp }
 
 abbrev pub has-row : Sweep → ℕ → ℕ → Bool
-has-row m filled rows = m .live && ltb filled rows
+has-row m filled rows = is-live m && ltb filled rows
 
 abbrev pub closed : Sweep → ℕ → ℕ → Scanned
-closed m count refusal = record { refusal = refusal; count = count; more = m .live; next = cond (m .live) (m .key) 0 }
+closed m count refusal = record { refusal = refusal; count = count; more = is-live m; next = cond (is-live m) (m .key) 0 }

@@ -75,7 +75,7 @@ fn open(entries: &[u32], levels: &[u32], lo: u32, hi: u32, refusal: u32) -> Swee
 fn goes_on(m: Sweep, filled: usize, rows: usize) -> bool
     ensures { λ r. ⌜ r ≡ has-row m filled rows ⌝ }
 {
-    m.live && filled < rows
+    m.live == 1 && filled < rows
 }
 
 // The row of the live docket that the sweep has come to.
@@ -93,7 +93,7 @@ fn row_of(m: Sweep) -> Row
 fn close(m: Sweep, count: usize, refusal: u32) -> Scanned
     ensures { λ r. ⌜ r ≡ closed m count refusal ⌝ }
 {
-    if m.live {
+    if m.live == 1 {
         return Scanned {
             refusal: refusal,
             count: count,

@@ -1,7 +1,6 @@
 -- A level that goes on alone: its first point is what is to come of the least docket, and passing that passes the docket.
 use mathlib.Core.Path.{_≡_, refl, sym, _∙_}
 use mathlib.Core.Logic.{_≢_}
-use mathlib.Core.Bool.{Bool, true, false}
 use mathlib.Core.List.{List}
 use Prim.Native.Nat.{ℕ, _+_, _<_, _≤_}
 use native.Mathlib.Omega.{arith}
@@ -61,7 +60,7 @@ module _ {e : List ℕ} {m : Sweep} {k : ℕ} (s : Sweeping e m) (is : k ≡ nex
         ))
 
     module _ (r : ℕ) (seeks : r ≡ first-slot (beginning e (k + 1) (chain-from e (m .slot)))) where
-      module _ (going alive : Bool) (key value stamp : ℕ) where
+      module _ (going alive key value stamp : ℕ) where
         abbrev after : Sweep
         after = told (moved m r) going alive key value stamp
 
@@ -115,12 +114,12 @@ module _ {e : List ℕ} {m : Sweep} {k : ℕ} (s : Sweeping e m) (is : k ≡ nex
         }
 
       -- The point is a delete, or a put.
-      pub alone-on : m .going ≡ true → kind-of e (m .slot) ≢ 1 → Stepped e m (moved m r)
+      pub alone-on : m .going ≡ 1 → kind-of e (m .slot) ≢ 1 → Stepped e m (moved m r)
       alone-on goes kind =
           stepped-on words s is (passing (m .going) (m .live) (m .key) (m .value) (m .stamp)) le
           (alone-says ∙ rw (ne-eqb (kind-of e (m .slot)) 1 kind)) goes
 
-      pub alone-found : kind-of e (m .slot) ≡ 1 → Stepped e m (told (moved m r) false true k (tally-of e (m .slot)) (stamp-of e (m .slot)))
+      pub alone-found : kind-of e (m .slot) ≡ 1 → Stepped e m (told (moved m r) 0 1 k (tally-of e (m .slot)) (stamp-of e (m .slot)))
       alone-found kind =
-          stepped-found words s is (passing false true k (tally-of e (m .slot)) (stamp-of e (m .slot))) le
+          stepped-found words s is (passing 0 1 k (tally-of e (m .slot)) (stamp-of e (m .slot))) le
           (alone-says ∙ rw (eq-eqb (kind-of e (m .slot)) 1 kind)) refl refl refl

@@ -1,6 +1,5 @@
 -- The cursors at the beginning of each level, and a sweep that begins with those that have passed what lies before lo.
 use mathlib.Core.Path.{_≡_, _∙_}
-use mathlib.Core.Bool.{true, false}
 use mathlib.Core.List.{List}
 use Prim.Native.Nat.{ℕ, _+_, _≤_}
 use native.Mathlib.Numerals.{add-one}
@@ -34,8 +33,8 @@ begun points ranges levels hi = record {
   waiting = getD points 1 0;
   reach = 0;
   hi = hi;
-  going = true;
-  live = false;
+  going = 1;
+  live = 0;
   key = 0;
   value = 0;
   stamp = 0;

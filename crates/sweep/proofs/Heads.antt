@@ -1,7 +1,6 @@
 -- Laws of a sweep's cursors: where the slot stands among them and where the second level's, and a choice of other levels.
 use mathlib.Core.Path.{_≡_, refl, sym, ap, _∙_}
 use mathlib.Core.Logic.{_≢_}
-use mathlib.Core.Bool.{Bool}
 use mathlib.Core.List.{List}
 use Prim.Native.Nat.{ℕ, _<_, _≤_, min}
 use native.Mathlib.Omega.{arith}
@@ -30,7 +29,7 @@ abbrev pub waits : Sweep → List ℕ
 waits m = set (m .points) (m .second) (m .waiting)
 
 -- The same cursors, whether the sweep is on its way or has come to a docket.
-pub told-sweeping : {e : List ℕ} {m : Sweep} {going alive : Bool} {key value stamp : ℕ} → Sweeping e m → Sweeping e (told m going alive key value stamp)
+pub told-sweeping : {e : List ℕ} {m : Sweep} {going alive key value stamp : ℕ} → Sweeping e m → Sweeping e (told m going alive key value stamp)
 told-sweeping s = record {
   ready = s .ready;
   inside = s .inside;

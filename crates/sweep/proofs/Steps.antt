@@ -1,17 +1,20 @@
 -- What passing the least docket to come, or finding none up to hi, says of a sweep.
-use mathlib.Core.Path.{_≡_, sym, _∙_}
-use mathlib.Core.Bool.{true, false, cond, false≢true}
+use mathlib.Core.Path.{_≡_, refl, sym, _∙_}
+use mathlib.Core.Logic.{_≢_}
+use mathlib.Core.Bool.{cond}
 use mathlib.Core.List.{List}
 use Prim.Native.Nat.{ℕ, zero, suc, _+_, _<_, _≤_, min}
 use native.Mathlib.Omega.{arith}
 use native.Mathlib.Decide.{ℕ-discrete}
 use lib.ListN.{getD}
-use Rattle.lists.proofs.Bools.{cond-elim, both-false}
-use Rattle.model.specs.Lookup.{Row, absent, found, add-row, lookup}
+use lib.Dec.{eqb}
+use borrow.Author.Tests.{ne-eqb, eqb-false}
+use Rattle.lists.proofs.Bools.{cond-elim}
+use Rattle.model.specs.Lookup.{absent, found, add-row, lookup}
 use Rattle.covers.proofs.Chains.{Words}
 use Rattle.sweep.specs.declared.Sweep.{Sweep}
 use Rattle.cursors.specs.Cursors.{coming, next-lo, least-lo, Ready}
-use Rattle.sweep.specs.Sweeps.{heads, told, to-come, Sweeping, Stepped, rest, rows-from, ahead}
+use Rattle.sweep.specs.Sweeps.{heads, told, standing, to-come, Sweeping, Stepped, Tried, rest, rows-from, listed, ahead}
 use Rattle.sweep.proofs.Heads.{Alike, told-sweeping}
 use Rattle.sweep.proofs.Live.{live-none, live-pass}
 use Rattle.sweep.proofs.Coming.{points-before, absent-all}
@@ -51,11 +54,11 @@ pub record Passing (e : List ℕ) (m r : Sweep) (k : ℕ) : Type 0 where
 
 module _ {e : List ℕ} {m : Sweep} {k : ℕ} (words : Words e) (s : Sweeping e m) where
   -- The least docket to come is past hi.
-  pub stepped-none : ((i : ℕ) → i < m .levels → k ≤ next-lo e (heads m) i) → m .hi < k → Stepped e m (told m false false (m .key) (m .value) (m .stamp))
+  pub stepped-none : ((i : ℕ) → i < m .levels → k ≤ next-lo e (heads m) i) → m .hi < k → Stepped e m (told m 0 0 (m .key) (m .value) (m .stamp))
   stepped-none least past = record {
     sweeping = told-sweeping s;
     leads = live-none (lookup (to-come e m)) k (m .hi) (none-before e (heads m) (m .ranges) (m .levels) k words (s .ready) least) past;
-    fewer = λ g. absurd (false≢true g);
+    fewer = λ g. absurd (omega arith);
   }
 
   module _ {r : Sweep} (is : k ≡ next-lo e (heads m) (m .level)) (p : Passing e m r k) (le : k ≤ m .hi) where
@@ -80,7 +83,7 @@ module _ {e : List ℕ} {m : Sweep} {k : ℕ} (words : Words e) (s : Sweeping e 
         ))
 
     -- It is not live, and the sweep goes on.
-    pub stepped-on : lookup (to-come e m) k ≡ absent → r .going ≡ true → Stepped e m r
+    pub stepped-on : lookup (to-come e m) k ≡ absent → r .going ≡ 1 → Stepped e m r
     stepped-on q goes = record {
       sweeping = p .sweeping;
       leads = rest-passed ∙ rw (q, goes);
@@ -88,11 +91,11 @@ module _ {e : List ℕ} {m : Sweep} {k : ℕ} (words : Words e) (s : Sweeping e 
     }
 
     -- It is live, and its row is found.
-    pub stepped-found : lookup (to-come e m) k ≡ found (r .value) (r .stamp) → r .key ≡ k → r .going ≡ false → r .live ≡ true → Stepped e m r
+    pub stepped-found : lookup (to-come e m) k ≡ found (r .value) (r .stamp) → r .key ≡ k → r .going ≡ 0 → r .live ≡ 1 → Stepped e m r
     stepped-found q found-at stops alive = record {
       sweeping = p .sweeping;
       leads = rest-passed ∙ rw (q, stops, alive, found-at);
-      fewer = λ g. both-false g stops;
+      fewer = λ g. absurd (g stops);
     }
 
 -- A step once other levels go on is a step.
@@ -103,19 +106,37 @@ stepped-alike e m c r ch st = record {
   fewer = λ g. rw (← ch .same-heads, ← ch .same-levels) (st .fewer g);
 }
 
--- What a sweep on its way has to come, and what one that has come to a docket lists.
-abbrev pub listed : List ℕ → Sweep → List (Row ℕ)
-listed e m = cond (m .going) (rest e m) (rows-from e m)
+-- How the sweep stood does not matter to a step, which has also been tried, as where neither level could go on.
+module _ {e : List ℕ} (m : Sweep) where
+  pub stood-stepped : {r : Sweep} {going : ℕ} → Stepped e (standing m going) r → Stepped e m r
+  stood-stepped st = record { sweeping = st .sweeping; leads = st .leads; fewer = st .fewer }
+
+  pub stood-tried : {r : Sweep} {going : ℕ} → Stepped e (standing m going) r → Tried e m r
+  stood-tried st = record { sweeping = st .sweeping; leads = st .leads; fewer = λ g _. st .fewer g }
+
+  pub blocked-tried : Sweeping e m → Tried e m (standing m 2)
+  blocked-tried s = record { sweeping = told-sweeping s; leads = refl; fewer = λ _ free. absurd (free refl) }
+
+-- What was tried is a step, has come to what was still to come, or has left all of it to the search.
+module _ {e : List ℕ} {m r : Sweep} (t : Tried e m r) where
+  pub tried-stepped : r .going ≢ 2 → Stepped e m r
+  tried-stepped free = record { sweeping = t .sweeping; leads = t .leads; fewer = λ g. t .fewer g free }
+
+  pub tried-arrived : r .going ≡ 0 → rows-from e r ≡ rest e m
+  tried-arrived stops = sym (rw stops at (t .leads))
+
+  pub tried-on : r .going ≢ 0 → (s : Sweep) → rows-from e s ≡ rest e r → rows-from e s ≡ rest e m
+  tried-on goes s q = q ∙ sym (rw (ne-eqb (r .going) 0 goes) at (t .leads))
 
 -- How many more steps there may be.
 abbrev pub steps-left : List ℕ → Sweep → ℕ
-steps-left e m = cond (m .going) (suc (ahead e m)) 0
+steps-left e m = cond (eqb (m .going) 0) 0 (suc (ahead e m))
 
-module _ {e : List ℕ} {m r : Sweep} (st : Stepped e m r) (goes : m .going ≡ true) where
+module _ {e : List ℕ} {m r : Sweep} (st : Stepped e m r) (goes : m .going ≢ 0) where
   pub listed-same : listed e r ≡ listed e m
-  listed-same = rw goes (sym (st .leads))
+  listed-same = rw (ne-eqb (m .going) 0 goes) (sym (st .leads))
 
   pub fewer-steps : steps-left e r < steps-left e m
   fewer-steps =
-      rw goes
-      (cond-elim (λ n. n < suc (ahead e m)) (r .going) (suc (ahead e r)) 0 (λ g. omega (arith, st .fewer g)) (λ g. omega arith))
+      rw (ne-eqb (m .going) 0 goes)
+      (cond-elim (λ n. n < suc (ahead e m)) (eqb (r .going) 0) 0 (suc (ahead e r)) (λ g. omega arith) (λ g. omega (arith, st .fewer (eqb-false (r .going) 0 g))))

@@ -1,6 +1,5 @@
 -- A step that asks all levels: the cursors that have passed the least docket to come.
 use mathlib.Core.Path.{_≡_, refl, sym, _∙_}
-use mathlib.Core.Bool.{Bool, true, false}
 use mathlib.Core.List.{List}
 use Prim.Native.Nat.{ℕ, _+_, _<_, _≤_}
 use native.Mathlib.Omega.{arith}
@@ -26,7 +25,7 @@ module _ {e : List ℕ} {m : Sweep} {k : ℕ} (s : Sweeping e m) (is : k ≡ nex
 
   module _ {points ranges : List ℕ} (p : Passed e (k + 1) (m .points) (m .ranges) points ranges (m .levels)) (words : Words e)
       (le : k ≤ m .hi) where
-    passing : (going alive : Bool) (key value stamp : ℕ) → Passing e m (told (regrouped m points ranges) going alive key value stamp) k
+    passing : (going alive key value stamp : ℕ) → Passing e m (told (regrouped m points ranges) going alive key value stamp) k
     passing going alive key value stamp =
         let same = unchanged points (m .level) (m .second) in
         record {
@@ -54,12 +53,12 @@ module _ {e : List ℕ} {m : Sweep} {k : ℕ} (s : Sweeping e m) (is : k ≡ nex
       answer : lookup (to-come e m) k ≡ settle w absent
       answer = rw (← f .settled, ← says, asked) (sym (levels-settle (coming e (m .points) (m .ranges) (m .levels)) k))
 
-      pub together-on : settle w absent ≡ absent → m .going ≡ true
+      pub together-on : settle w absent ≡ absent → m .going ≡ 1
           → Stepped e m (regrouped m points ranges)
       together-on q goes =
           stepped-on words s is (passing (m .going) (m .live) (m .key) (m .value) (m .stamp)) le (answer ∙ q) goes
 
       pub together-found : (value stamp : ℕ) → settle w absent ≡ found value stamp
-          → Stepped e m (told (regrouped m points ranges) false true k value stamp)
+          → Stepped e m (told (regrouped m points ranges) 0 1 k value stamp)
       together-found value stamp q =
-          stepped-found words s is (passing false true k value stamp) le (answer ∙ q) refl refl refl
+          stepped-found words s is (passing 0 1 k value stamp) le (answer ∙ q) refl refl refl

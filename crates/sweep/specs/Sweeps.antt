@@ -1,9 +1,10 @@
 -- A sweep over the levels: what it still has to come, and the rows of the live dockets among it.
 use mathlib.Core.Path.{_≡_}
 use mathlib.Core.Logic.{_≢_}
-use mathlib.Core.Bool.{Bool, true, false, cond}
+use mathlib.Core.Bool.{Bool, cond}
 use mathlib.Core.List.{List, [], _∷_}
 use Prim.Native.Nat.{ℕ, _-_, _<_, _≤_}
+use lib.Dec.{eqb}
 use lib.ListN.{getD, set, replicate}
 use Rattle.model.specs.Lookup.{Row, lookup, live}
 use Rattle.model.specs.Records.{Level}
@@ -45,8 +46,12 @@ abbrev pub regrouped : Sweep → List ℕ → List ℕ → Sweep
 regrouped m points ranges = record { points = points; ranges = ranges; levels = m .levels; level = m .level; slot = getD points (m .level) 0; bound = 0; second = m .second; waiting = getD points (m .second) 0; reach = 0; hi = m .hi; going = m .going; live = m .live; key = m .key; value = m .value; stamp = m .stamp }
 
 -- The same cursors; the sweep is on its way, or has come to a live docket or to none.
-abbrev pub told : Sweep → Bool → Bool → ℕ → ℕ → ℕ → Sweep
+abbrev pub told : Sweep → ℕ → ℕ → ℕ → ℕ → ℕ → Sweep
 told m going alive key value stamp = record { points = m .points; ranges = m .ranges; levels = m .levels; level = m .level; slot = m .slot; bound = m .bound; second = m .second; waiting = m .waiting; reach = m .reach; hi = m .hi; going = going; live = alive; key = key; value = value; stamp = stamp }
+
+-- The same sweep, but for how it stands.
+abbrev pub standing : Sweep → ℕ → Sweep
+standing m going = told m going (m .live) (m .key) (m .value) (m .stamp)
 
 -- A sweep that has come to its end.
 abbrev pub over : Sweep
@@ -61,8 +66,8 @@ over = record {
   waiting = 0;
   reach = 0;
   hi = 0;
-  going = false;
-  live = false;
+  going = 0;
+  live = 0;
   key = 0;
   value = 0;
   stamp = 0;
@@ -81,9 +86,16 @@ rest e m = live (lookup (to-come e m)) 0 (m .hi)
 abbrev pub row-found : Sweep → Row ℕ
 row-found m = record { key = m .key; tally = m .value; stamp = m .stamp }
 
+abbrev pub is-live : Sweep → Bool
+is-live m = eqb (m .live) 1
+
 -- It and those that are still to come; none where the sweep came to no live docket.
 abbrev pub rows-from : List ℕ → Sweep → List (Row ℕ)
-rows-from e m = cond (m .live) (row-found m ∷ rest e m) []
+rows-from e m = cond (is-live m) (row-found m ∷ rest e m) []
+
+-- What a sweep that has come to a docket or to none lists, and what one on its way has to come.
+abbrev pub listed : List ℕ → Sweep → List (Row ℕ)
+listed e m = cond (eqb (m .going) 0) (rows-from e m) (rest e m)
 
 -- How many dockets there are from the least to come on.
 abbrev pub ahead : List ℕ → Sweep → ℕ
@@ -92,5 +104,11 @@ ahead e m = 65536 - least-lo e (heads m) (m .levels)
 -- A step passes a docket, the least to come, or finds that none is left up to hi.
 pub record Stepped (e : List ℕ) (m r : Sweep) : Type 0 where
   pub sweeping : Sweeping e r
-  pub leads : rest e m ≡ cond (r .going) (rest e r) (rows-from e r)
-  pub fewer : r .going ≡ true → ahead e r < ahead e m
+  pub leads : rest e m ≡ listed e r
+  pub fewer : r .going ≢ 0 → ahead e r < ahead e m
+
+-- The same where one of the two levels can go on; that neither can is said by 2.
+pub record Tried (e : List ℕ) (m r : Sweep) : Type 0 where
+  pub sweeping : Sweeping e r
+  pub leads : rest e m ≡ listed e r
+  pub fewer : r .going ≢ 0 → r .going ≢ 2 → ahead e r < ahead e m

@@ -12,22 +12,30 @@ use rows::kind_of;
 use rows::stamp_of;
 use rows::tally_of;
 ghost use mathlib.Core.Path.{_≡_};
-ghost use mathlib.Core.Bool.{true, false};
 ghost use Prim.Native.Nat.{_<_, _≤_};
 ghost use Rattle.model.specs.Lookup.{lookup, live};
 ghost use Rattle.tables.specs.Placed.{read-state};
 ghost use Rattle.level_lookup.specs.Readable.{Readable};
 ghost use Rattle.cursors.specs.Cursors.{next-lo};
-ghost use Rattle.sweep.specs.Sweeps.{heads, swapped, regrouped, told, over, Sweeping, Foremost, Stepped, rest, rows-from};
+ghost use Rattle.sweep.specs.Sweeps.{heads, swapped, regrouped, told, standing, over, Sweeping, Foremost, Tried, Stepped, rest, rows-from};
 
 // The kind of a put.
 const PUT: u32 = 1;
 
+// How a sweep stands: it has come to a live docket, or to none.
+const ARRIVED: u32 = 0;
+
+// It is on its way.
+const SEARCHING: u32 = 1;
+
+// It is on its way, and neither of its two levels can go on alone.
+const BLOCKED: u32 = 2;
+
 // The first point and the first range that each of some levels still has to come; the level that goes on alone, its first point
 // (its slot), and the docket before which it is alone; a second level, its first point (which waits), and the docket before which
-// the two are alone; the last docket that is asked for; whether the sweep is still on its way to a live docket, and the one that it
-// has come to, if it has. Numbers that are written together do not stand side by side: read as one word before they have reached
-// memory, they would have to be waited for.
+// the two are alone; the last docket that is asked for; how the sweep stands (going), whether it has come to a live docket (1 or
+// 0), and to which. Numbers that are written together do not stand side by side: read as one word before they have reached memory,
+// they would have to be waited for. No field is a bool: the gap beside it would be copied byte by byte.
 pub struct Sweep {
     pub slot: usize,
     pub points: [usize; 7],
@@ -35,9 +43,9 @@ pub struct Sweep {
     pub ranges: [usize; 7],
     pub levels: usize,
     pub key: u32,
-    pub live: bool,
+    pub live: u32,
     pub value: u32,
-    pub going: bool,
+    pub going: u32,
     pub stamp: u32,
     pub hi: u32,
     pub bound: u32,
@@ -72,13 +80,13 @@ pub fn begin(e: &[u32], l: &[u32], lo: u32, hi: u32) -> Sweep
         waiting: waiting,
         reach: 0,
         hi: hi,
-        going: true,
-        live: false,
+        going: SEARCHING,
+        live: 0,
         key: 0,
         value: 0,
         stamp: 0,
     };
-    advance(e, m)
+    search(e, m)
 }
 
 // A sweep that has come to its end.
@@ -96,8 +104,8 @@ pub fn ended() -> Sweep
         waiting: 0,
         reach: 0,
         hi: 0,
-        going: false,
-        live: false,
+        going: ARRIVED,
+        live: 0,
         key: 0,
         value: 0,
         stamp: 0,
@@ -110,30 +118,67 @@ pub fn advance(e: &[u32], m: Sweep) -> Sweep
     ensures { λ r. ⌜ Sweeping (now (e .entry)) r ⌝ }
     ensures { λ r. ⌜ rows-from (now (e .entry)) r ≡ rest (now (e .entry)) m ⌝ }
 {
+    let r = near(e, m);
+    if r.going == ARRIVED {
+        return r;
+    }
+    // Copies: a state handed on by address would live in memory in the caller's loop too, and not in registers.
+    stand(search(e, stand(r, SEARCHING)), ARRIVED)
+}
+
+// The same sweep, but for how it stands.
+fn stand(m: Sweep, going: u32) -> Sweep
+    ensures { λ r. ⌜ r ≡ standing m going ⌝ }
+{
     let mut r = m;
-    r.going = true;
-    while r.going {
+    r.going = going;
+    r
+}
+
+// Goes on, docket by docket, to the next live one.
+fn search(e: &[u32], m: Sweep) -> Sweep
+    requires { ⌜ Sweeping (now e) m ⌝ }
+    ensures { λ r. ⌜ Sweeping (now (e .entry)) r ⌝ }
+    ensures { λ r. ⌜ rows-from (now (e .entry)) r ≡ rest (now (e .entry)) m ⌝ }
+{
+    let mut r = m;
+    r.going = SEARCHING;
+    while r.going != ARRIVED {
         r = step(e, r);
     }
     r
 }
 
-// One docket: by the level that goes on alone, by the second, or by another.
+// One docket: by one of the two levels, or by another.
 fn step(e: &[u32], m: Sweep) -> Sweep
     requires { ⌜ Sweeping (now e) m ⌝ }
-    requires { ⌜ m .going ≡ true ⌝ }
     ensures { λ r. ⌜ Stepped (now (e .entry)) m r ⌝ }
 {
+    let r = near(e, m);
+    if r.going == BLOCKED {
+        return change_level(e, stand(m, SEARCHING));
+    }
+    r
+}
+
+// One docket by the level that goes on alone or by the second, if one of them can.
+fn near(e: &[u32], m: Sweep) -> Sweep
+    requires { ⌜ Sweeping (now e) m ⌝ }
+    ensures { λ r. ⌜ Tried (now (e .entry)) m r ⌝ }
+{
+    let mut r = m;
+    r.going = SEARCHING;
     let key = key_at(e, m.slot);
     if key < m.bound {
-        return go_alone(e, m, key);
+        return go_alone(e, r, key);
     }
     let next = key_at(e, m.waiting);
     let bound = lesser(key, m.reach);
     if next < bound {
-        return go_alone(e, swap(m, bound), next);
+        return go_alone(e, swap(r, bound), next);
     }
-    change_level(e, m)
+    r.going = BLOCKED;
+    r
 }
 
 // The second level goes on, and the other waits: no cursor is written, so that two levels can go by turns at no cost.
@@ -152,7 +197,7 @@ fn swap(m: Sweep, bound: u32) -> Sweep
 // One docket by a level that has the least key to come: alone, if it can, or with all the others.
 fn change_level(e: &[u32], m: Sweep) -> Sweep
     requires { ⌜ Sweeping (now e) m ⌝ }
-    requires { ⌜ m .going ≡ true ⌝ }
+    requires { ⌜ m .going ≡ 1 ⌝ }
     ensures { λ r. ⌜ Stepped (now (e .entry)) m r ⌝ }
 {
     let mut points = m.points;
@@ -182,7 +227,7 @@ fn change_level(e: &[u32], m: Sweep) -> Sweep
 // The least docket to come, which no other level has and no level above has a range over.
 fn go_alone(e: &[u32], m: Sweep, key: u32) -> Sweep
     requires { ⌜ Sweeping (now e) m ⌝ }
-    requires { ⌜ m .going ≡ true ⌝ }
+    requires { ⌜ m .going ≡ 1 ⌝ }
     requires { ⌜ key ≡ next-lo (now e) (heads m) (m .level) ⌝ }
     requires { ⌜ key < m .bound ⌝ }
     ensures { λ r. ⌜ Stepped (now (e .entry)) m r ⌝ }
@@ -195,8 +240,8 @@ fn go_alone(e: &[u32], m: Sweep, key: u32) -> Sweep
     if kind_of(e, m.slot) != PUT {
         return r;
     }
-    r.going = false;
-    r.live = true;
+    r.going = ARRIVED;
+    r.live = 1;
     r.key = key;
     r.value = tally_of(e, m.slot);
     r.stamp = stamp_of(e, m.slot);
@@ -206,7 +251,7 @@ fn go_alone(e: &[u32], m: Sweep, key: u32) -> Sweep
 // The least docket to come, asked of all levels.
 fn go_together(e: &[u32], m: Sweep, key: u32) -> Sweep
     requires { ⌜ Sweeping (now e) m ⌝ }
-    requires { ⌜ m .going ≡ true ⌝ }
+    requires { ⌜ m .going ≡ 1 ⌝ }
     requires { ⌜ key ≡ next-lo (now e) (heads m) (m .level) ⌝ }
     requires { ⌜ Foremost (now e) m ⌝ }
     ensures { λ r. ⌜ Stepped (now (e .entry)) m r ⌝ }
@@ -246,11 +291,11 @@ fn regroup(m: Sweep, points: [usize; 7], ranges: [usize; 7]) -> Sweep
 
 // The sweep has come to a live docket.
 fn found(m: Sweep, key: u32, value: u32, stamp: u32) -> Sweep
-    ensures { λ r. ⌜ r ≡ told m false true key value stamp ⌝ }
+    ensures { λ r. ⌜ r ≡ told m 0 1 key value stamp ⌝ }
 {
     let mut r = m;
-    r.going = false;
-    r.live = true;
+    r.going = ARRIVED;
+    r.live = 1;
     r.key = key;
     r.value = value;
     r.stamp = stamp;
@@ -259,10 +304,10 @@ fn found(m: Sweep, key: u32, value: u32, stamp: u32) -> Sweep
 
 // No live docket is left.
 fn none(m: Sweep) -> Sweep
-    ensures { λ r. ⌜ r ≡ told m false false (m .key) (m .value) (m .stamp) ⌝ }
+    ensures { λ r. ⌜ r ≡ told m 0 0 (m .key) (m .value) (m .stamp) ⌝ }
 {
     let mut r = m;
-    r.going = false;
-    r.live = false;
+    r.going = ARRIVED;
+    r.live = 0;
     r
 }

@@ -1,7 +1,7 @@
 -- `scan::open` meets its contract: tables of which no scan is refused are readable.
 use mathlib.Core.Path.{sym, ap, _∙_}
 use borrow.Author.Needs.{needs}
-use Rattle.sweep.specs.declared.Sweep.{Sweep}
+use Rattle.sweep.specs.Sweeps.{is-live}
 use Rattle.scan.proofs.Refusals.{allowed-readable, allowed-order, allowed-high, opened, unopened}
 use Rattle.scan.proofs.open.Statement.{statement}
 use Rattle.scan.proofs.open.Tie as tie
@@ -19,7 +19,7 @@ ended-requires : tie.Need-ended-requires
 ended-requires c κs = search needs
 
 returns-2 : tie.Need-returns-2
-returns-2 c = unopened _ _ _ _ _ (c .before .before .before .before .pre) _ (c .before .if1 .left) (ap (λ (m : Sweep). m .live) (c .ended .ensures))
+returns-2 c = unopened _ _ _ _ _ (c .before .before .before .before .pre) _ (c .before .if1 .left) (ap is-live (c .ended .ensures))
 
 pub open-spec : {M : Type 1} → statement M
 open-spec = tie.close (tie.spec begin-requires returns ended-requires returns-2)

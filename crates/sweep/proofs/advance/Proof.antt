@@ -1,33 +1,35 @@
--- `sweep::advance` meets its contract. The loop's invariant: the sweep lists what it had to come.
-use mathlib.Core.Path.{_≡_, refl, _∙_}
-use Rattle.sweep.specs.Sweeps.{Sweeping, rest}
+-- `sweep::advance` meets its contract: one of the two levels comes to the next live docket, or the search does.
+use borrow.Author.Needs.{needs}
 use Rattle.sweep.proofs.Heads.{told-sweeping}
-use Rattle.sweep.proofs.Steps.{listed, steps-left, listed-same, fewer-steps}
+use Rattle.sweep.proofs.Steps.{tried-arrived, tried-on}
 use Rattle.sweep.proofs.advance.Statement.{statement}
 use Rattle.sweep.proofs.advance.Tie as tie
 
-abbrev Inv-loop : tie.InvT-loop
-Inv-loop e r₀ r = Sweeping e r × (listed e r ≡ rest e r₀)
+near-requires : tie.Need-near-requires
+near-requires c κs = search needs
 
-abbrev μ-loop : tie.MeasureT-loop
-μ-loop e r₀ r = steps-left e r
+returns : tie.Need-returns
+returns c =
+    let t = c .before .before .near .ensures in
+    (t .sweeping, tried-arrived t (c .if1 .taken))
 
-loop-holds : tie.Need-loop-holds Inv-loop μ-loop
-loop-holds c = (told-sweeping (c .before .pre), refl)
+stand-requires : tie.Need-stand-requires
+stand-requires c κs = search needs
 
-step-requires : tie.Need-step-requires Inv-loop μ-loop
-step-requires c κs = (c .before .loop .inv .0, c .loop-test .taken)
+search-requires : tie.Need-search-requires
+search-requires c κs = rw (c .stand .ensures) (told-sweeping (c .before .before .before .near .ensures .sweeping))
 
-loop-less : tie.Need-loop-less Inv-loop μ-loop
-loop-less c = fewer-steps (c .step .ensures) (c .before .loop-test .taken)
+stand-requires-2 : tie.Need-stand-requires-2
+stand-requires-2 c κs = search needs
 
-loop-again : tie.Need-loop-again Inv-loop μ-loop
-loop-again c =
-    (c .step .ensures .sweeping, listed-same (c .step .ensures) (c .before .loop-test .taken) ∙ c .before .before .loop .inv .1)
-
-returns : tie.Need-returns Inv-loop μ-loop
-returns c = (c .before .loop .inv .0, rw (c .loop-test .left) at (c .before .loop .inv .1))
+returns-2 : tie.Need-returns-2
+returns-2 c =
+    let s = c .before in
+    let n = s .before .before in
+    rw (c .stand2 .ensures)
+    (told-sweeping (s .search .ensures .0), tried-on (n .before .before .near .ensures) (n .if1 .left) (s .search .result) (rw (s .before .stand .ensures) at (s .search .ensures .1)))
 
 pub advance-spec : {M : Type 1} → statement M
 advance-spec =
-    tie.close (tie.spec Inv-loop μ-loop loop-holds step-requires loop-less loop-again returns)
+    tie.close
+    (tie.spec near-requires returns stand-requires search-requires stand-requires-2 returns-2)

@@ -42,8 +42,8 @@ array-read-slot c = search needs
 array-read-waiting : tie.Need-array-read-waiting
 array-read-waiting c = search needs
 
-advance-requires : tie.Need-advance-requires
-advance-requires c κs =
+search-requires : tie.Need-search-requires
+search-requires c κs =
     let a = c .before .before in
     let o = a .before .before .before .before .before in
     let p = o .before .before .before .before .before .before .pre in
@@ -55,8 +55,8 @@ returns c =
     let o = a .before .before .before .before .before in
     let k = o .before .before .before .before .before in
     let p = k .before .pre in (
-      c .advance .ensures .0,
-      c .advance .ensures .1
+      c .search .ensures .0,
+      c .search .ensures .1
           ∙ begun-rest (p .0) _ _ refl refl (o .«open» .ensures .0) (o .«open» .ensures .1) (omega (arith, p .1 .0, p .1 .1)) (a .move-to .ensures .0) (a .move-to .ensures .1)
           (λ i. k .shared-slice-known .given i .fits) _ (p .1 .0),
     )
@@ -76,5 +76,5 @@ begin-spec =
     move-to-requires
     array-read-slot
     array-read-waiting
-    advance-requires
+    search-requires
     returns)
