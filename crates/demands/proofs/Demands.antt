@@ -17,7 +17,8 @@ use Rattle.tables.specs.Words.{Fits32, settings-of, clock-of}
 use Rattle.tables.specs.Sound.{table-refusal}
 use Rattle.lookup.specs.Lookup.{answered, lookup-tables}
 use Rattle.scan.specs.declared.Row.{Row}
-use Rattle.scan.specs.Scan.{scan-refusal, unfilled, filled, scan-tables}
+use Rattle.dockets.specs.Dockets.{docket-refusal}
+use Rattle.scan.specs.Scan.{unfilled, filled, scan-tables}
 use Rattle.scan.proofs.Words as scans
 use Rattle.calls.specs.Calls.{Tables, call-tables, tables-after, answers-tables, made-tables, refusal-number, merged-tables}
 use Rattle.demands.specs.Full.{SlotsLive}
@@ -58,10 +59,10 @@ module _ (w : Tables) where
 
 -- A scan is refused in exactly the listed cases, and then leaves every row.
 module _ (e l : List ℕ) (lo hi : ℕ) (rows : List Row) where
-  pub scan-refused-exactly : scan-tables e l lo hi rows .answer .refusal ≡ scan-refusal e l lo hi
+  pub scan-refused-exactly : scan-tables e l lo hi rows .answer .refusal ≡ docket-refusal e l lo hi
   scan-refused-exactly = scans.refused-exactly e l lo hi rows
 
-  pub scan-refused-leaves : scan-refusal e l lo hi ≢ 0 → scan-tables e l lo hi rows ≡ unfilled (scan-refusal e l lo hi) rows
+  pub scan-refused-leaves : docket-refusal e l lo hi ≢ 0 → scan-tables e l lo hi rows ≡ unfilled (docket-refusal e l lo hi) rows
   scan-refused-leaves = scans.refused-leaves e l lo hi rows
 
 -- From what an accepted making left, after every list of timed calls.

@@ -2,10 +2,10 @@
 use mathlib.Core.Bool.{cond}
 use mathlib.Core.List.{List}
 use Prim.Native.Nat.{ℕ}
-use lib.Dec.{eqb, ltb}
+use lib.Dec.{eqb}
 use Rattle.model.specs.Lookup as model
-use Rattle.tables.specs.Sound.{table-refusal}
 use Rattle.tables.specs.Placed.{read-state}
+use Rattle.dockets.specs.Dockets.{docket-refusal}
 use Rattle.lookup.specs.declared.Answer.{Answer}
 use Rattle.lookup.specs.declared.Answer.the-variants.{Refused, Absent, Found}
 
@@ -14,12 +14,9 @@ abbrev pub answered : model.Found ℕ → Answer
 answered model.absent = Absent
 answered (model.found tally stamp) = Found tally stamp
 
--- 1 to 3 are the tables'; 4: "a docket above 65,535". Else the lookup in the state that the tables read as.
+-- Refused 1 to 4, as a call of the dockets from k to k; else the lookup in the state that the tables read as.
 unfoldable pub lookup-tables : List ℕ → List ℕ → ℕ → Answer
-lookup-tables e l k =
-    cond (eqb (table-refusal e l) 0)
-    (cond (ltb 65535 k) (Refused 4) (answered (model.lookup (read-state e l .levels) k)))
-    (Refused (table-refusal e l))
+lookup-tables e l k = cond (eqb (docket-refusal e l k k) 0) (answered (model.lookup (read-state e l .levels) k)) (Refused (docket-refusal e l k k))
 
 -- Document 01's numbers of an answer: "A refusal gives its number and zeros", "found (1 or 0)", "Absent gives tally and stamp 0".
 pub record Numbers : Type 0 where

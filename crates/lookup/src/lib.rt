@@ -1,7 +1,7 @@
 // Lookup of one docket in the two tables: levels from 0, up to the first that decides.
+use dockets::docket_refusal;
 use level_lookup::Decided;
 use level_lookup::look_chains;
-use soundness::table_refusal;
 ghost use mathlib.Core.Path.{_≡_};
 ghost use Prim.Native.Nat.{_≤_};
 ghost use Rattle.model.specs.Lookup.{lookup};
@@ -11,11 +11,6 @@ ghost use Rattle.level_lookup.specs.Answers.{level-decides};
 ghost use Rattle.lookup.specs.Found.{found-of};
 ghost use Rattle.level_lookup.specs.Readable.{Readable};
 ghost use Rattle.lookup.specs.Lookup.{lookup-tables};
-
-// The refusal of a docket that there is none of.
-const BAD_DOCKET: u32 = 4;
-
-const LAST_DOCKET: u32 = 65535;
 
 // What a lookup answers: the number of its refusal, or else nothing, or the tally and the stamp.
 pub enum Answer {
@@ -34,12 +29,9 @@ enum Found {
 pub fn lookup(entries: &[u32], levels: &[u32], docket: u32) -> Answer
     ensures { λ r. ⌜ r ≡ lookup-tables (now (entries .entry)) (now (levels .entry)) docket ⌝ }
 {
-    let refusal = table_refusal(entries, levels);
+    let refusal = docket_refusal(entries, levels, docket, docket);
     if refusal != 0 {
         return Answer::Refused(refusal);
-    }
-    if LAST_DOCKET < docket {
-        return Answer::Refused(BAD_DOCKET);
     }
     match look_up(entries, levels, docket) {
         Found::Absent => Answer::Absent,

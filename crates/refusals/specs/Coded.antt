@@ -1,12 +1,13 @@
 -- The code's tables and answers as the definitions', and a call that is not refused at once.
 use mathlib.Core.Path.{_≡_}
-use mathlib.Core.Bool.{false, cond, _||_}
+use mathlib.Core.Bool.{false, cond}
 use mathlib.Core.List.{List}
 use Prim.Native.Nat.{ℕ}
-use lib.Dec.{ltb, eqb}
+use lib.Dec.{eqb}
 use Rattle.model.specs.Calls as model
 use Rattle.tables.specs.Words.{Fits32, clock-of}
 use Rattle.tables.specs.Sound.{table-refusal}
+use Rattle.dockets.specs.Dockets.{docket-refusal}
 use Rattle.calls.specs.Calls.{Tables, Called}
 use Rattle.refusals.specs.declared.Answer.{Answer}
 
@@ -19,12 +20,9 @@ lent e l = record { entries = e; levels = l }
 abbrev pub called : List ℕ → List ℕ → Answer → Called
 called e l r = record { tables = lent e l; answer = answer-of r }
 
--- "The order is the table's": 1 to 3, then 4, then 5; 0 for none of them.
+-- "The order is the table's": 1 to 4, then 5; 0 for none of them.
 abbrev pub call-refusal : List ℕ → List ℕ → ℕ → ℕ → ℕ → ℕ
-call-refusal e l t lo hi =
-    cond (eqb (table-refusal e l) 0)
-    (cond (ltb 65535 hi || ltb hi lo) 4 (cond (model.bad-clock t (clock-of e)) 5 0))
-    (table-refusal e l)
+call-refusal e l t lo hi = cond (eqb (docket-refusal e l lo hi) 0) (cond (model.bad-clock t (clock-of e)) 5 0) (docket-refusal e l lo hi)
 
 -- A call that meets none of them.
 pub record Began (e l : List ℕ) (t : ℕ) (op : model.Op ℕ) : Type 0 where

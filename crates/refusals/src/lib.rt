@@ -1,15 +1,10 @@
 // What turns a timed call away at once, and the answer that says so.
-use soundness::table_refusal;
+use dockets::docket_refusal;
 ghost use mathlib.Core.Path.{_≡_};
 ghost use Rattle.model.specs.Calls.{refusing};
 ghost use Rattle.refusals.specs.Coded.{answer-of, call-refusal};
 
-// The largest docket.
-const LAST_DOCKET: u32 = 65535;
-
-// The refusals of document 01.
-const BAD_DOCKET: u32 = 4;
-
+// The refusal of a clock that is 0 or before the last accepted one.
 const BAD_CLOCK: u32 = 5;
 
 // A refusal's number with zeros, or 0 with the merges and the records that have gone.
@@ -23,15 +18,9 @@ pub struct Answer {
 pub fn refusal_of(e: &[u32], l: &[u32], clock: u32, lo: u32, hi: u32) -> u32
     ensures { λ r. ⌜ r ≡ call-refusal (now (e .entry)) (now (l .entry)) clock lo hi ⌝ }
 {
-    let refusal = table_refusal(e, l);
+    let refusal = docket_refusal(e, l, lo, hi);
     if refusal != 0 {
         return refusal;
-    }
-    if LAST_DOCKET < hi {
-        return BAD_DOCKET;
-    }
-    if hi < lo {
-        return BAD_DOCKET;
     }
     if clock == 0 {
         return BAD_CLOCK;

@@ -17,8 +17,9 @@ use Rattle.tables.specs.Sound.{table-refusal}
 use Rattle.tables.proofs.Numbers.{tables-refuse-low}
 use Rattle.tables.specs.Placed.{read-state}
 use Rattle.scan.specs.declared.Row.{Row}
-use Rattle.scan.specs.Scan.{scan-refusal, scan-tables}
-use Rattle.scan.proofs.Refusals.{allowed-high, allowed-order}
+use Rattle.dockets.specs.Dockets.{bad-dockets, docket-refusal}
+use Rattle.scan.specs.Scan.{scan-tables}
+use Rattle.dockets.proofs.Refusals.{allowed-high, allowed-order}
 
 module _ {A : Type 0} where
   added-length : (k : ℕ) (v : Found A) (rs : List (model.Row A)) → length (add-row k v rs) ≤ suc (length rs)
@@ -46,8 +47,8 @@ module _ {A : Type 0} where
       unfolding model.scan
       next-low order = first-key-low (suc hi) (omega arith) room (live look lo hi) (all-weaken _ _ (λ r l. l .high) (live look lo hi) (live-listed look lo hi order))
 
-refusal-low : (e l : List ℕ) (lo hi : ℕ) → scan-refusal e l lo hi ≤ 4
-refusal-low e l lo hi = go (eqb (table-refusal e l) 0) (ltb 65535 hi || ltb hi lo) (table-refusal e l) (tables-refuse-low e l)
+refusal-low : (e l : List ℕ) (lo hi : ℕ) → docket-refusal e l lo hi ≤ 4
+refusal-low e l lo hi = go (eqb (table-refusal e l) 0) (bad-dockets lo hi) (table-refusal e l) (tables-refuse-low e l)
   where
     go : (a b : Bool) (r : ℕ) → r ≤ 3 → cond a (cond b 4 0) r ≤ 4
     go true true r h = omega arith
@@ -56,9 +57,9 @@ refusal-low e l lo hi = go (eqb (table-refusal e l) 0) (ltb 65535 hi || ltb hi l
 
 pub answer-low : (e l : List ℕ) (lo hi : ℕ) (rows : List Row) → (scan-tables e l lo hi rows .answer .count ≤ 65536) × (scan-tables e l lo hi rows .answer .next ≤ 65535) × (scan-tables e l lo hi rows .answer .refusal ≤ 4)
 unfolding scan-tables
-answer-low e l lo hi rows = by-cases (eqb (scan-refusal e l lo hi) 0)
+answer-low e l lo hi rows = by-cases (eqb (docket-refusal e l lo hi) 0)
     (λ p.
-    let z : scan-refusal e l lo hi ≡ 0 = eqb-true (scan-refusal e l lo hi) 0 p in
+    let z : docket-refusal e l lo hi ≡ 0 = eqb-true (docket-refusal e l lo hi) 0 p in
     let high : hi ≤ 65535 = allowed-high e l lo hi z in
     let look : ℕ → Found ℕ = model.lookup (read-state e l .levels) in
     rw p (omega (arith, count-low look lo hi (length rows)), omega (arith, next-low look lo hi (length rows) (allowed-order e l lo hi z)), omega arith))

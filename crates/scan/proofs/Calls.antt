@@ -34,13 +34,14 @@ use Rattle.scan.specs.declared.Row.{Row}
 use Rattle.sweep.specs.declared.Sweep.{Sweep}
 use Rattle.scan.specs.declared.Scanned.{Scanned}
 use Rattle.sweep.specs.Sweeps.{Sweeping, rest, rows-from}
-use Rattle.scan.specs.Scan.{scan-refusal, Opened, row-at, has-row, closed}
+use Rattle.dockets.specs.Dockets.{docket-refusal}
+use Rattle.scan.specs.Scan.{Opened, row-at, has-row, closed}
 use Rattle.sweep.proofs.Sweep as S
 use Rattle.sweep.proofs.Sweep.Laws as S′
 use Rattle.scan.proofs.Row as T
 use Rattle.scan.proofs.Scanned as C
-use Rattle.scan.proofs.find_refusal as find-refusal
-use Rattle.scan.proofs.find_refusal.Symbol.{name as #scan·find-refusal}
+use Rattle.dockets.proofs.docket_refusal as refusal-fn
+use Rattle.dockets.proofs.docket_refusal.Symbol.{name as #dockets·docket-refusal}
 use Rattle.scan.proofs.open as open-first
 use Rattle.scan.proofs.open.Symbol.{name as #scan·open}
 use Rattle.scan.proofs.goes_on as goes-on
@@ -71,8 +72,8 @@ module _ {M : Type 1} {𝓤 : URA M} where
   Both κ₁ κ₂ e l = ‵ (Entries κ₁ e) ⊛ ‵ (Levels κ₂ l)
 
 module _ {M : Type 1} (𝓤 : URA M) (H : Heap 𝓤) (A : Atoms 𝓤) (at-mem : Memory → SProp 𝓤) (run : Routine → Fun 𝓤) where
-  abbrev pub FindRefusal : Contract 𝓤
-  FindRefusal = tripleOf 𝓤 H A find-refusal.signature (find-refusal.spec 𝓤 H A at-mem run)
+  abbrev pub DocketRefusal : Contract 𝓤
+  DocketRefusal = tripleOf 𝓤 H A refusal-fn.signature (refusal-fn.spec 𝓤 H A at-mem run)
 
   abbrev pub Open : Contract 𝓤
   Open = tripleOf 𝓤 H A open-first.signature (open-first.spec 𝓤 H A at-mem run)
@@ -91,7 +92,7 @@ module _ {M : Type 1} (𝓤 : URA M) (H : Heap 𝓤) (A : Atoms 𝓤) (at-mem : 
 
   -- what is known of the callees: each meets its contract
   pub record Callees (𝓣 : Tables 𝓤 H) : Type 1 where
-    pub find-refusal : Triple 𝓤 (𝓣 .C #scan·find-refusal) FindRefusal
+    pub finds-refusal : Triple 𝓤 (𝓣 .C #dockets·docket-refusal) DocketRefusal
     pub open-first : Triple 𝓤 (𝓣 .C #scan·open) Open
     pub goes-on : Triple 𝓤 (𝓣 .C #scan·goes-on) GoesOn
     pub row-of : Triple 𝓤 (𝓣 .C #scan·row-of) RowOf
@@ -111,8 +112,8 @@ module _ {M : Type 1} (𝓤 : URA M) (H : Heap 𝓤) (A : Atoms 𝓤) (at-mem : 
   abbrev pub advance-call : Lft → Share → RefT (List ℕ) → Sweep → Val → Advance .Ghost
   advance-call κ q e m u = (((κ, tt), (q, tt), tt, (e, (m, tt)), (table-at e ∷ [], (u ∷ [], tt))), tt)
 
-  abbrev pub find-refusal-call : Lft → Lft → Share → Share → RefT (List ℕ) → RefT (List ℕ) → ℕ → ℕ → FindRefusal .Ghost
-  find-refusal-call κ₁ κ₂ q₁ q₂ e l lo hi = (((κ₁, (κ₂, tt)), (q₁, (q₂, tt)), tt, (e, (l, (lo, (hi, tt)))), (table-at e ∷ [], (table-at l ∷ [], (vint w32 lo ∷ [], (vint w32 hi ∷ [], tt))))), tt)
+  abbrev pub docket-refusal-call : Lft → Lft → Share → Share → RefT (List ℕ) → RefT (List ℕ) → ℕ → ℕ → DocketRefusal .Ghost
+  docket-refusal-call κ₁ κ₂ q₁ q₂ e l lo hi = (((κ₁, (κ₂, tt)), (q₁, (q₂, tt)), tt, (e, (l, (lo, (hi, tt)))), (table-at e ∷ [], (table-at l ∷ [], (vint w32 lo ∷ [], (vint w32 hi ∷ [], tt))))), tt)
 
   abbrev pub open-call : Lft → Lft → Share → Share → RefT (List ℕ) → RefT (List ℕ) → ℕ → ℕ → ℕ → Val → Open .Ghost
   open-call κ₁ κ₂ q₁ q₂ e l lo hi r w = (((κ₁, (κ₂, tt)), (q₁, (q₂, tt)), tt, (e, (l, (lo, (hi, (r, tt))))), (table-at e ∷ [], (table-at l ∷ [], (vint w32 lo ∷ [], (vint w32 hi ∷ [], (w ∷ [], tt)))))), tt)
@@ -150,12 +151,12 @@ module _ {M : Type 1} (𝓤 : URA M) (H : Heap 𝓤) (A : Atoms 𝓤) (at-mem : 
           qed W (Both κ₁ κ₂ e l ∷ []) ∵ split ! $ use1 W (‵ (Entries κ₁ e) ⊛ ‵ (Entries κ₁ e)) (entries-twice κ₁ e) $ split ! $ move ! (2 ∷ []) $
           use1 W (‵ (Levels κ₂ l) ⊛ ‵ (Levels κ₂ l)) (shr-slice-copy 𝓤 H A W (named 1) κ₂ u32 .twice l (table-at l ∷ [])) $ split ! $ move ! (2 ∷ 0 ∷ []) $ join ! $ frame ! $ move ! (1 ∷ 0 ∷ []) $ done !
 
-      find-refusal-asked : ent 𝓤 (sep 𝓤 (mean 𝓤 H A (Tokens κ₁ κ₂ q₁ q₂)) (mean 𝓤 H A (Both κ₁ κ₂ e l))) (FindRefusal .pre (find-refusal-call κ₁ κ₂ q₁ q₂ e l lo hi))
-      find-refusal-asked =
+      docket-refusal-asked : ent 𝓤 (sep 𝓤 (mean 𝓤 H A (Tokens κ₁ κ₂ q₁ q₂)) (mean 𝓤 H A (Both κ₁ κ₂ e l))) (DocketRefusal .pre (docket-refusal-call κ₁ κ₂ q₁ q₂ e l lo hi))
+      docket-refusal-asked =
           qed W (Tokens κ₁ κ₂ q₁ q₂ ∷ Both κ₁ κ₂ e l ∷ []) ∵ move ! (1 ∷ []) $ split ! $ nothing ! $ owned ! u32 (Is u32) (uint-makes 𝓤 H A W w32) hi _ (refl, b) $ fjoin ! $ owned ! u32 (Is u32) (uint-makes 𝓤 H A W w32) lo _ (refl, a) $ fjoin ! $
           move ! (2 ∷ 0 ∷ []) $ fjoin ! $ move ! (1 ∷ 0 ∷ []) $ fjoin ! $ move ! (1 ∷ 0 ∷ []) $ join ! $ frame ! $ nothing ! $ done !
 
-      open-asked : (r : ℕ) (w : Val) → Is u32 r (w ∷ []) → r ≡ scan-refusal (e .now) (l .now) lo hi
+      open-asked : (r : ℕ) (w : Val) → Is u32 r (w ∷ []) → r ≡ docket-refusal (e .now) (l .now) lo hi
           → ent 𝓤 (sep 𝓤 (mean 𝓤 H A (Tokens κ₁ κ₂ q₁ q₂)) (mean 𝓤 H A (Both κ₁ κ₂ e l))) (Open .pre (open-call κ₁ κ₂ q₁ q₂ e l lo hi r w))
       open-asked r w c is =
           qed W (Tokens κ₁ κ₂ q₁ q₂ ∷ Both κ₁ κ₂ e l ∷ []) ∵ says ! is $ frame ! $ split ! $ nothing ! $ owned ! u32 (Is u32) (uint-makes 𝓤 H A W w32) r _ c $ fjoin ! $
@@ -214,18 +215,18 @@ module _ {M : Type 1} {𝓤 : URA M} {H : Heap 𝓤} {A : Atoms 𝓤} {at-mem : 
       (λ m′ is′ h. split t $ move t (1 ∷ []) $ drop t $ k v m′ is′ (h .0) (h .1)))
 
   module _ {κ₁ κ₂ : Lft} {q₁ q₂ : Share} where
-    pub calls-find-refusal : K → (known : Callees 𝓤 H A at-mem run 𝓣) (e l : RefT (List ℕ)) (lo hi : ℕ) → lo < 2 ^ 32 → hi < 2 ^ 32
-        → Opds K W (raw (FindRefusal 𝓤 H A at-mem run .pre (find-refusal-call 𝓤 H A at-mem run κ₁ κ₂ q₁ q₂ e l lo hi)) ∷ Both κ₁ κ₂ e l ∷ Γ) En xs (table-at e ∷ table-at l ∷ vint w32 lo ∷ vint w32 hi ∷ [])
-        → ((v : Val) (r : ℕ) → Is u32 r (v ∷ []) → r ≡ scan-refusal (e .now) (l .now) lo hi → Seq K W (Tokens κ₁ κ₂ q₁ q₂ ∷ Both κ₁ κ₂ e l ∷ Γ) (lands (𝓣 .C) (𝓣 .Λ) En d v b q))
-        → Seq K W (Tokens κ₁ κ₂ q₁ q₂ ∷ Both κ₁ κ₂ e l ∷ Γ) (runs (𝓣 .C) (𝓣 .Λ) En (seq (call #scan·find-refusal xs d) b) q)
-    calls-find-refusal t known e l lo hi f g os k =
+    pub calls-docket-refusal : K → (known : Callees 𝓤 H A at-mem run 𝓣) (e l : RefT (List ℕ)) (lo hi : ℕ) → lo < 2 ^ 32 → hi < 2 ^ 32
+        → Opds K W (raw (DocketRefusal 𝓤 H A at-mem run .pre (docket-refusal-call 𝓤 H A at-mem run κ₁ κ₂ q₁ q₂ e l lo hi)) ∷ Both κ₁ κ₂ e l ∷ Γ) En xs (table-at e ∷ table-at l ∷ vint w32 lo ∷ vint w32 hi ∷ [])
+        → ((v : Val) (r : ℕ) → Is u32 r (v ∷ []) → r ≡ docket-refusal (e .now) (l .now) lo hi → Seq K W (Tokens κ₁ κ₂ q₁ q₂ ∷ Both κ₁ κ₂ e l ∷ Γ) (lands (𝓣 .C) (𝓣 .Λ) En d v b q))
+        → Seq K W (Tokens κ₁ κ₂ q₁ q₂ ∷ Both κ₁ κ₂ e l ∷ Γ) (runs (𝓣 .C) (𝓣 .Λ) En (seq (call #dockets·docket-refusal xs d) b) q)
+    calls-docket-refusal t known e l lo hi f g os k =
         move t (1 ∷ []) $ use1 W (Both κ₁ κ₂ e l ⊛ Both κ₁ κ₂ e l) (both-twice 𝓤 H A at-mem run W κ₁ κ₂ q₁ q₂ e l lo hi f g) $ split t $ move t (2 ∷ 0 ∷ []) $
-        use2 W (raw (FindRefusal 𝓤 H A at-mem run .pre (find-refusal-call 𝓤 H A at-mem run κ₁ κ₂ q₁ q₂ e l lo hi))) (find-refusal-asked 𝓤 H A at-mem run W κ₁ κ₂ q₁ q₂ e l lo hi f g) $
-        calls-at t (fmOf 𝓤 H (W .laws) 𝓣) (FindRefusal 𝓤 H A at-mem run) (known .find-refusal) (find-refusal-call 𝓤 H A at-mem run κ₁ κ₂ q₁ q₂ e l lo hi) os (λ v.
-        told t tt (Tokens κ₁ κ₂ q₁ q₂) u32 (ensured 𝓤 H A find-refusal.ended (find-refusal.clauses 𝓤 H A at-mem run) (κ₁, (κ₂, tt)) (e, (l, (lo, (hi, tt)))) tt) (λ r. r ≡ scan-refusal (e .now) (l .now) lo hi)
-        (λ r. exE 𝓤 _ (λ ws. snd∗ 𝓤 (sem 𝓤 H A (lasts find-refusal.ended (κ₁, (κ₂, tt)) (e, (l, (lo, (hi, tt)))) ws)) (fact 𝓤 (r ≡ scan-refusal (e .now) (l .now) lo hi)))) v (λ r is c. k v r is c))
+        use2 W (raw (DocketRefusal 𝓤 H A at-mem run .pre (docket-refusal-call 𝓤 H A at-mem run κ₁ κ₂ q₁ q₂ e l lo hi))) (docket-refusal-asked 𝓤 H A at-mem run W κ₁ κ₂ q₁ q₂ e l lo hi f g) $
+        calls-at t (fmOf 𝓤 H (W .laws) 𝓣) (DocketRefusal 𝓤 H A at-mem run) (known .finds-refusal) (docket-refusal-call 𝓤 H A at-mem run κ₁ κ₂ q₁ q₂ e l lo hi) os (λ v.
+        told t tt (Tokens κ₁ κ₂ q₁ q₂) u32 (ensured 𝓤 H A refusal-fn.ended (refusal-fn.clauses 𝓤 H A at-mem run) (κ₁, (κ₂, tt)) (e, (l, (lo, (hi, tt)))) tt) (λ r. r ≡ docket-refusal (e .now) (l .now) lo hi)
+        (λ r. exE 𝓤 _ (λ ws. snd∗ 𝓤 (sem 𝓤 H A (lasts refusal-fn.ended (κ₁, (κ₂, tt)) (e, (l, (lo, (hi, tt)))) ws)) (fact 𝓤 (r ≡ docket-refusal (e .now) (l .now) lo hi)))) v (λ r is c. k v r is c))
 
-    pub calls-open : K → (known : Callees 𝓤 H A at-mem run 𝓣) (e l : RefT (List ℕ)) (lo hi r : ℕ) (w : Val) → lo < 2 ^ 32 → hi < 2 ^ 32 → Is u32 r (w ∷ []) → r ≡ scan-refusal (e .now) (l .now) lo hi
+    pub calls-open : K → (known : Callees 𝓤 H A at-mem run 𝓣) (e l : RefT (List ℕ)) (lo hi r : ℕ) (w : Val) → lo < 2 ^ 32 → hi < 2 ^ 32 → Is u32 r (w ∷ []) → r ≡ docket-refusal (e .now) (l .now) lo hi
         → Opds K W (raw (Open 𝓤 H A at-mem run .pre (open-call 𝓤 H A at-mem run κ₁ κ₂ q₁ q₂ e l lo hi r w)) ∷ Both κ₁ κ₂ e l ∷ Γ) En xs (table-at e ∷ table-at l ∷ vint w32 lo ∷ vint w32 hi ∷ w ∷ [])
         → ((v : Val) (m : Sweep) → Is S.the-row m (v ∷ []) → Opened (e .now) (l .now) lo hi m → Seq K W (Tokens κ₁ κ₂ q₁ q₂ ∷ Both κ₁ κ₂ e l ∷ Γ) (lands (𝓣 .C) (𝓣 .Λ) En d v b q))
         → Seq K W (Tokens κ₁ κ₂ q₁ q₂ ∷ Both κ₁ κ₂ e l ∷ Γ) (runs (𝓣 .C) (𝓣 .Λ) En (seq (call #scan·open xs d) b) q)

@@ -14,7 +14,8 @@ use Rattle.sweep.specs.declared.Sweep.{Sweep}
 use Rattle.scan.specs.declared.Row.{Row}
 use Rattle.scan.specs.declared.Scanned.{Scanned}
 use Rattle.sweep.specs.Sweeps.{Sweeping, rest, row-found, is-live, rows-from}
-use Rattle.scan.specs.Scan.{Outcome, written, filled, scan-refusal, scan-tables, Opened, row-at, has-row, closed}
+use Rattle.dockets.specs.Dockets.{docket-refusal}
+use Rattle.scan.specs.Scan.{Outcome, written, filled, scan-tables, Opened, row-at, has-row, closed}
 use Rattle.scan.proofs.Filling.{so-far, length-so-far, set-so-far, drop-inside, drop-none, drop-next, take-over}
 
 -- The rows of the live dockets from lo to hi.
@@ -23,9 +24,9 @@ live-rows e l lo hi = model.live (model.lookup (read-state e l .levels)) lo hi
 
 -- After i rows the sweep m has come to the next live docket. Where the scan is refused there is none, and no row is filled.
 pub record Reached (e l : List ℕ) (lo hi : ℕ) (ys : List Row) (i : ℕ) (m : Sweep) : Type 0 where
-  pub refused : (eqb (scan-refusal e l lo hi) 0 ≡ false) → (is-live m ≡ false) × (i ≡ 0)
-  pub sweeping : (eqb (scan-refusal e l lo hi) 0 ≡ true) → Sweeping e m
-  pub left : (eqb (scan-refusal e l lo hi) 0 ≡ true) → drop i (live-rows e l lo hi) ≡ rows-from e m
+  pub refused : (eqb (docket-refusal e l lo hi) 0 ≡ false) → (is-live m ≡ false) × (i ≡ 0)
+  pub sweeping : (eqb (docket-refusal e l lo hi) 0 ≡ true) → Sweeping e m
+  pub left : (eqb (docket-refusal e l lo hi) 0 ≡ true) → drop i (live-rows e l lo hi) ≡ rows-from e m
   pub inside : i ≤ length (live-rows e l lo hi)
   pub room : i ≤ length ys
 
@@ -57,8 +58,8 @@ module _ (e l : List ℕ) (lo hi : ℕ) (ys : List Row) (i : ℕ) (m : Sweep) (h
     pub has-room : i < length ys
     has-room = ltb-true i (length ys) (and-right (is-live m) (ltb i (length ys)) t)
 
-    accepted : eqb (scan-refusal e l lo hi) 0 ≡ true
-    accepted = by-cases (eqb (scan-refusal e l lo hi) 0) (λ p. p) (λ p. both-false lives (h .refused p .0))
+    accepted : eqb (docket-refusal e l lo hi) 0 ≡ true
+    accepted = by-cases (eqb (docket-refusal e l lo hi) 0) (λ p. p) (λ p. both-false lives (h .refused p .0))
 
     pub goes-sweeping : Sweeping e m
     goes-sweeping = h .sweeping accepted
@@ -90,7 +91,7 @@ module _ (e l : List ℕ) (lo hi : ℕ) (ys : List Row) (i : ℕ) (m : Sweep) (h
     unfolding model.scan
     same p q s = rw (p, q, s, counted)
 
-    module _ (accept : eqb (scan-refusal e l lo hi) 0 ≡ true) where
+    module _ (accept : eqb (docket-refusal e l lo hi) 0 ≡ true) where
       -- A live docket found no row.
       ended-more : is-live m ≡ true → Filled (closed m i 0)
       ended-more live =
@@ -111,8 +112,8 @@ module _ (e l : List ℕ) (lo hi : ℕ) (ys : List Row) (i : ℕ) (m : Sweep) (h
       ended-accepted : Filled (closed m i 0)
       ended-accepted = by-cases (is-live m) ended-more ended-last
 
-    pub ended : (r : ℕ) → r ≡ scan-refusal e l lo hi → _≡_ {A = Outcome} (record { answer = closed m i r; rows = rows }) (scan-tables e l lo hi ys)
+    pub ended : (r : ℕ) → r ≡ docket-refusal e l lo hi → _≡_ {A = Outcome} (record { answer = closed m i r; rows = rows }) (scan-tables e l lo hi ys)
     unfolding scan-tables
-    ended r is = by-cases (eqb (scan-refusal e l lo hi) 0)
-        (λ p. rw (is, p, eqb-true (scan-refusal e l lo hi) 0 p) (ended-accepted p))
+    ended r is = by-cases (eqb (docket-refusal e l lo hi) 0)
+        (λ p. rw (is, p, eqb-true (docket-refusal e l lo hi) 0 p) (ended-accepted p))
         (λ p. rw (is, p, h .refused p .0, h .refused p .1) refl)

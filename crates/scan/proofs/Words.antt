@@ -14,13 +14,14 @@ use Rattle.tables.specs.Formed.{Formed}
 use Rattle.tables.proofs.Back.{written-reads}
 use Rattle.tables.proofs.FormedSound.{words-sound}
 use Rattle.scan.specs.declared.Row.{Row}
-use Rattle.scan.specs.Scan.{Outcome, scan-refusal, filled, unfilled, scan-tables}
+use Rattle.dockets.specs.Dockets.{docket-refusal}
+use Rattle.scan.specs.Scan.{Outcome, filled, unfilled, scan-tables}
 
 module _ (e l : List ℕ) (lo hi : ℕ) (rows : List Row) where
   -- A scan is refused by these numbers, in this order, and by no other.
-  pub refused-exactly : scan-tables e l lo hi rows .answer .refusal ≡ scan-refusal e l lo hi
+  pub refused-exactly : scan-tables e l lo hi rows .answer .refusal ≡ docket-refusal e l lo hi
   unfolding scan-tables
-  refused-exactly = go (scan-refusal e l lo hi) (eqb (scan-refusal e l lo hi) 0) refl
+  refused-exactly = go (docket-refusal e l lo hi) (eqb (docket-refusal e l lo hi) 0) refl
     where
       go : (n : ℕ) (none : Bool) → eqb n 0 ≡ none
           → cond none (filled (model.scan (model.lookup (read-state e l .levels)) lo hi (length rows)) rows) (unfilled n rows) .answer .refusal ≡ n
@@ -28,9 +29,9 @@ module _ (e l : List ℕ) (lo hi : ℕ) (rows : List Row) where
       go n false is = refl
 
   -- "A refusal gives its number and zeros", and every row is as it was.
-  pub refused-leaves : scan-refusal e l lo hi ≢ 0 → scan-tables e l lo hi rows ≡ unfilled (scan-refusal e l lo hi) rows
+  pub refused-leaves : docket-refusal e l lo hi ≢ 0 → scan-tables e l lo hi rows ≡ unfilled (docket-refusal e l lo hi) rows
   unfolding scan-tables
-  refused-leaves some = rw (ne-eqb (scan-refusal e l lo hi) 0 some)
+  refused-leaves some = rw (ne-eqb (docket-refusal e l lo hi) 0 some)
 
 -- On the words of a formed state, the scan of that state.
 pub scanned-words : (n : ℕ) (p : State ℕ ℕ) (lo hi : ℕ) (rows : List Row) → Formed n p → lo ≤ hi → hi ≤ 65535

@@ -1,13 +1,13 @@
 -- Document 01: "Scan of lo to hi fills the caller's rows, each a docket, a tally and a stamp, ascending", and is refused 1, 2, 3, 4 in this order.
 use mathlib.Core.Path.{_≡_}
-use mathlib.Core.Bool.{Bool, true, false, cond, _&&_, _||_}
+use mathlib.Core.Bool.{Bool, true, false, cond, _&&_}
 use mathlib.Core.List.{List, _++_, map}
 use Prim.Native.Nat.{ℕ}
 use lib.Dec.{eqb, ltb}
 use lib.ListN.{length, drop}
 use Rattle.model.specs.Lookup as model
-use Rattle.tables.specs.Sound.{table-refusal}
 use Rattle.tables.specs.Placed.{read-state}
+use Rattle.dockets.specs.Dockets.{docket-refusal}
 use Rattle.sweep.specs.declared.Sweep.{Sweep}
 use Rattle.scan.specs.declared.Row.{Row}
 use Rattle.scan.specs.declared.Scanned.{Scanned}
@@ -21,10 +21,6 @@ pub record Outcome : Type 0 where
 abbrev pub written : model.Row ℕ → Row
 written r = record { docket = r .key; tally = r .tally; stamp = r .stamp }
 
--- 1 to 3 are the tables'; 4: a docket above 65,535, or lo above hi.
-abbrev pub scan-refusal : List ℕ → List ℕ → ℕ → ℕ → ℕ
-scan-refusal e l lo hi = cond (eqb (table-refusal e l) 0) (cond (ltb 65535 hi || ltb hi lo) 4 0) (table-refusal e l)
-
 -- "Rows past its count are unchanged."
 abbrev pub filled : model.Scan ℕ → List Row → Outcome
 filled s rows = record {
@@ -36,18 +32,18 @@ filled s rows = record {
 abbrev pub unfilled : ℕ → List Row → Outcome
 unfilled n rows = record { answer = record { refusal = n; count = 0; more = false; next = 0 }; rows = rows }
 
--- The scan of the state that the tables read as.
+-- Refused 1 to 4; else the scan of the state that the tables read as.
 unfoldable pub scan-tables : List ℕ → List ℕ → ℕ → ℕ → List Row → Outcome
 scan-tables e l lo hi rows =
-    cond (eqb (scan-refusal e l lo hi) 0)
+    cond (eqb (docket-refusal e l lo hi) 0)
     (filled (model.scan (model.lookup (read-state e l .levels)) lo hi (length rows)) rows)
-    (unfilled (scan-refusal e l lo hi) rows)
+    (unfilled (docket-refusal e l lo hi) rows)
 
 -- The sweep as the scan begins: at the first of the live dockets, or at none where the scan is refused.
 pub record Opened (e l : List ℕ) (lo hi : ℕ) (m : Sweep) : Type 0 where
-  pub refused : (eqb (scan-refusal e l lo hi) 0 ≡ false) → is-live m ≡ false
-  pub sweeping : (eqb (scan-refusal e l lo hi) 0 ≡ true) → Sweeping e m
-  pub rows : (eqb (scan-refusal e l lo hi) 0 ≡ true) → rows-from e m ≡ model.live (model.lookup (read-state e l .levels)) lo hi
+  pub refused : (eqb (docket-refusal e l lo hi) 0 ≡ false) → is-live m ≡ false
+  pub sweeping : (eqb (docket-refusal e l lo hi) 0 ≡ true) → Sweeping e m
+  pub rows : (eqb (docket-refusal e l lo hi) 0 ≡ true) → rows-from e m ≡ model.live (model.lookup (read-state e l .levels)) lo hi
 
 abbrev pub row-at : Sweep → Row
 row-at m = record { docket = m .key; tally = m .value; stamp = m .stamp }

@@ -1,16 +1,12 @@
 // Scan: the live dockets from lo to hi, written into the caller's rows.
-use soundness::table_refusal;
+use dockets::docket_refusal;
 use sweep::Sweep;
 use sweep::advance;
 use sweep::begin;
 use sweep::ended;
 ghost use mathlib.Core.Path.{_≡_};
-ghost use Rattle.scan.specs.Scan.{Opened, row-at, has-row, closed, scan-refusal, scan-tables};
-
-// The refusal of dockets that there are none of.
-const BAD_DOCKET: u32 = 4;
-
-const LAST_DOCKET: u32 = 65535;
+ghost use Rattle.dockets.specs.Dockets.{docket-refusal};
+ghost use Rattle.scan.specs.Scan.{Opened, row-at, has-row, closed, scan-tables};
 
 // A live docket, its tally and its stamp.
 #[repr(C)]
@@ -32,7 +28,7 @@ pub struct Scanned {
 pub fn scan(entries: &[u32], levels: &[u32], lo: u32, hi: u32, rows: &mut [Row]) -> Scanned
     ensures { λ r. ⌜ record { answer = r; rows = now (rows .exit) } ≡ scan-tables (now (entries .entry)) (now (levels .entry)) lo hi (now (rows .entry)) ⌝ }
 {
-    let refusal = find_refusal(entries, levels, lo, hi);
+    let refusal = docket_refusal(entries, levels, lo, hi);
     let mut m = open(entries, levels, lo, hi, refusal);
     let mut i = 0;
     while goes_on(m, i, rows.len()) {
@@ -43,26 +39,9 @@ pub fn scan(entries: &[u32], levels: &[u32], lo: u32, hi: u32, rows: &mut [Row])
     close(m, i, refusal)
 }
 
-// Why the scan is refused, or 0.
-fn find_refusal(entries: &[u32], levels: &[u32], lo: u32, hi: u32) -> u32
-    ensures { λ r. ⌜ r ≡ scan-refusal (now (entries .entry)) (now (levels .entry)) lo hi ⌝ }
-{
-    let refusal = table_refusal(entries, levels);
-    if refusal != 0 {
-        return refusal;
-    }
-    if LAST_DOCKET < hi {
-        return BAD_DOCKET;
-    }
-    if hi < lo {
-        return BAD_DOCKET;
-    }
-    0
-}
-
 // Comes to the first live docket, or to none where the scan is refused.
 fn open(entries: &[u32], levels: &[u32], lo: u32, hi: u32, refusal: u32) -> Sweep
-    requires { ⌜ refusal ≡ scan-refusal (now entries) (now levels) lo hi ⌝ }
+    requires { ⌜ refusal ≡ docket-refusal (now entries) (now levels) lo hi ⌝ }
     ensures { λ r. ⌜ Opened (now (entries .entry)) (now (levels .entry)) lo hi r ⌝ }
 {
     if refusal == 0 {

@@ -1,12 +1,12 @@
 // The live dockets of sound tables in ascending order, one after the other. Each record is passed once: mostly one level goes on
 // alone for a while, or two by turns, and only where another level may have a say are all levels asked.
 use covers::seek;
-use leads::key_at;
-use leads::leaders;
-use leads::lesser;
 use cursors::look;
 use cursors::move_to;
 use cursors::open;
+use leads::key_at;
+use leads::leaders;
+use leads::lesser;
 use level_lookup::Decided;
 use rows::kind_of;
 use rows::stamp_of;

@@ -2,7 +2,8 @@
 use mathlib.Core.Path.{sym, ap, _∙_}
 use borrow.Author.Needs.{needs}
 use Rattle.sweep.specs.Sweeps.{is-live}
-use Rattle.scan.proofs.Refusals.{allowed-readable, allowed-order, allowed-high, opened, unopened}
+use Rattle.dockets.proofs.Refusals.{allowed-order, allowed-high}
+use Rattle.scan.proofs.Refusals.{allowed-readable, opened, unopened}
 use Rattle.scan.proofs.open.Statement.{statement}
 use Rattle.scan.proofs.open.Tie as tie
 

@@ -46,10 +46,11 @@ use Rattle.lists.proofs.Bools.{by-cases}
 use Rattle.scan.specs.declared.Row.{Row}
 use Rattle.sweep.specs.declared.Sweep.{Sweep}
 use Rattle.scan.specs.declared.Scanned.{Scanned}
-use Rattle.scan.specs.Scan.{Outcome, written, scan-refusal, has-row}
+use Rattle.dockets.specs.Dockets.{docket-refusal}
+use Rattle.scan.specs.Scan.{Outcome, written, has-row}
 use Rattle.scan.proofs.Filling.{so-far}
 use Rattle.scan.proofs.Reached.{live-rows, Reached, begun, kept-length, has-room, goes-sweeping, stored, turned, ended}
-use Rattle.scan.proofs.Calls.{table-at, Entries, Tokens, Both, FindRefusal, Open, GoesOn, RowOf, Advance, Close, Callees, calls-find-refusal, calls-open, calls-goes-on, calls-row-of, calls-advance, calls-close}
+use Rattle.scan.proofs.Calls.{table-at, Entries, Tokens, Both, DocketRefusal, Open, GoesOn, RowOf, Advance, Close, Callees, calls-docket-refusal, calls-open, calls-goes-on, calls-row-of, calls-advance, calls-close}
 use Rattle.scan.proofs.Ends as ends
 use Rattle.scan.proofs.Ends.{stayed}
 use Rattle.scan.proofs.Entry.{after, word, number, slice₁, slice₂, slice₅, Locals, Dies, Stored, enters, leaves}
@@ -59,9 +60,9 @@ use Rattle.sweep.proofs.Sweep as S
 use Rattle.sweep.proofs.Sweep.Laws as S′
 use Rattle.scan.proofs.Scanned as C
 use Rattle.scan.proofs.Scanned.Laws as C′
-use Rattle.scan.proofs.find_refusal.Symbol as find-refusal-def
-use Rattle.scan.proofs.find_refusal.Symbol.{name as #scan·find-refusal}
-use Rattle.scan.proofs.find_refusal.Met as find-refusal-thm
+use Rattle.dockets.proofs.docket_refusal.Symbol as docket-refusal-def
+use Rattle.dockets.proofs.docket_refusal.Symbol.{name as #dockets·docket-refusal}
+use Rattle.dockets.proofs.docket_refusal.Met as docket-refusal-thm
 use Rattle.scan.proofs.open.Symbol as open-def
 use Rattle.scan.proofs.open.Symbol.{name as #scan·open}
 use Rattle.scan.proofs.open.Met as open-thm
@@ -116,7 +117,7 @@ module _ {M : Type 1} (𝓤 : URA M) (H : Heap 𝓤) (A : Atoms 𝓤) (W : Given
     abbrev Ends : List (Item 𝓤)
     Ends = Dies 𝓤 H C′.mir S′.mir T′.mir l₀ l₁ l₂ l₃ l₄ l₅ l₆ l₇ l₈ l₉ l₁₀ l₁₁ l₁₂
 
-    module _ (r : ℕ) (w : Val) (is-r : Is u32 r (w ∷ [])) (checked : r ≡ scan-refusal (e .now) (l .now) lo hi) where
+    module _ (r : ℕ) (w : Val) (is-r : Is u32 r (w ∷ [])) (checked : r ≡ docket-refusal (e .now) (l .now) lo hi) where
       -- what no turn touches
       abbrev Frame : List (Item 𝓤)
       Frame = ‵ (fat fullShare slice₁ l₁ 0 (table-at e)) ∷ ‵ (fat fullShare slice₅ l₅ 0 (sliceVal (b, o) n)) ∷ ‵ (fat fullShare slice₂ l₂ 0 (table-at l)) ∷ ‵ (fat fullShare number l₃ 0 (vint w32 lo)) ∷ ‵ (fat fullShare number l₄ 0 (vint w32 hi))
@@ -232,7 +233,7 @@ module _ {M : Type 1} (𝓤 : URA M) (H : Heap 𝓤) (A : Atoms 𝓤) (W : Given
     starts : lo < 2 ^ 32 → hi < 2 ^ 32 → ent 𝓤 (⋆ 𝓤 H A Start) (Wp 𝓤 H (𝓣 .C) (𝓣 .Λ) En code.Mir.t-1 (atReturn 𝓤 H En Post))
     starts low high =
         qed W Start ∵ exec ! (𝓣 .C) (𝓣 .Λ) En code.Mir.t-1 (atRet En Post) $
-        calls-find-refusal ! known e l lo hi low high
+        calls-docket-refusal ! known e l lo hi low high
         (and-then ! (load ! (from ! (stop !)) (look ! 9 refl)) (and-then ! (load ! (from ! (stop !)) (look ! 11 refl)) (and-then ! (load ! (from ! (stop !)) (look ! 12 refl)) (and-then ! (load ! (from ! (stop !)) (look ! 13 refl)) (no-more !))))) (λ w r is-r checked.
         land ! (from ! (stop !)) (init ! 14 refl (uint-lawful 𝓤 H A W w32 .typed r _ is-r .0)) $
         calls-open ! known e l lo hi r w low high is-r checked
@@ -287,7 +288,7 @@ scan-spec 𝓤 H 𝓜 𝓖 𝓡 =
     entered 𝓤 H (tripleOf 𝓤 H (𝓖 .A) f.signature (f.spec 𝓤 H (𝓖 .A) (𝓜 .mem) (𝓡 .run)))
     (tables 𝓤 H 𝓜 𝓡 code.env .C) (tables 𝓤 H 𝓜 𝓡 code.env .Λ) #scan·scan code.function (code.unfolded 𝓤 H 𝓜 𝓡)
     (scan-meets 𝓤 H (𝓖 .A) (givenOf 𝓤 H 𝓜 𝓖) (𝓜 .mem) (𝓡 .run) (tablesOf 𝓤 H 𝓜 (tables 𝓤 H 𝓜 𝓡 code.env)) (record {
-      find-refusal = cited 𝓤 H (FindRefusal 𝓤 H (𝓖 .A) (𝓜 .mem) (𝓡 .run)) 𝓜 𝓡 code.env #scan·find-refusal find-refusal-def.routine code.calls-scan·find-refusal (find-refusal-thm.met 𝓤 H 𝓜 𝓖 𝓡);
+      finds-refusal = cited 𝓤 H (DocketRefusal 𝓤 H (𝓖 .A) (𝓜 .mem) (𝓡 .run)) 𝓜 𝓡 code.env #dockets·docket-refusal docket-refusal-def.routine code.calls-dockets·docket-refusal (docket-refusal-thm.met 𝓤 H 𝓜 𝓖 𝓡);
       open-first = cited 𝓤 H (Open 𝓤 H (𝓖 .A) (𝓜 .mem) (𝓡 .run)) 𝓜 𝓡 code.env #scan·open open-def.routine code.calls-scan·open (open-thm.met 𝓤 H 𝓜 𝓖 𝓡);
       goes-on = cited 𝓤 H (GoesOn 𝓤 H (𝓖 .A) (𝓜 .mem) (𝓡 .run)) 𝓜 𝓡 code.env #scan·goes-on goes-on-def.routine code.calls-scan·goes-on (goes-on-thm.met 𝓤 H 𝓜 𝓖 𝓡);
       row-of = cited 𝓤 H (RowOf 𝓤 H (𝓖 .A) (𝓜 .mem) (𝓡 .run)) 𝓜 𝓡 code.env #scan·row-of row-of-def.routine code.calls-scan·row-of (row-of-thm.met 𝓤 H 𝓜 𝓖 𝓡);

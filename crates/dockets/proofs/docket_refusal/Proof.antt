@@ -1,8 +1,8 @@
--- `scan::find_refusal` meets its contract: the tables first, then hi, then the order of lo and hi.
+-- `dockets::docket_refusal` meets its contract: the tables first, then hi, then the order of lo and hi.
 use borrow.Author.Needs.{needs}
-use Rattle.scan.proofs.Refusals.{refused-tables, refused-high, refused-order, allowed}
-use Rattle.scan.proofs.find_refusal.Statement.{statement}
-use Rattle.scan.proofs.find_refusal.Tie as tie
+use Rattle.dockets.proofs.Refusals.{refused-tables, refused-high, refused-order, allowed}
+use Rattle.dockets.proofs.docket_refusal.Statement.{statement}
+use Rattle.dockets.proofs.docket_refusal.Tie as tie
 
 table-refusal-requires : tie.Need-table-refusal-requires
 table-refusal-requires c κs = search needs
@@ -21,5 +21,5 @@ returns-3 c = refused-order _ _ _ _ _ (c .before .before .before .table-refusal 
 returns-4 : tie.Need-returns-4
 returns-4 c = allowed _ _ _ _ _ (c .before .before .before .table-refusal .ensures) (c .before .before .if1 .left) (c .before .if2 .left) (c .if3 .left)
 
-pub find-refusal-spec : {M : Type 1} → statement M
-find-refusal-spec = tie.close (tie.spec table-refusal-requires returns returns-2 returns-3 returns-4)
+pub docket-refusal-spec : {M : Type 1} → statement M
+docket-refusal-spec = tie.close (tie.spec table-refusal-requires returns returns-2 returns-3 returns-4)

@@ -1,0 +1,2 @@
+-- Which dockets a call is refused for.
+pub mod Dockets
