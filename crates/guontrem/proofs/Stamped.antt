@@ -3,17 +3,18 @@ use mathlib.Core.Path.{_≡_, refl}
 use mathlib.Core.Bool.{Bool, true, false, cond}
 use mathlib.Core.List.{List, [], _∷_}
 use Prim.Native.Nat.{ℕ, _≤_}
-use lib.Dec.{eqb, ltb}
+use lib.Dec.{eqb}
 use borrow.Author.Tests.{eqb-true}
 use Rattle.lists.specs.All.{All}
 use Rattle.model.specs.Records.{Entry, value, tombstone, Point, Level}
 use Rattle.model.specs.Merge.{covered}
 use Rattle.model.specs.Lookup as model
-use Rattle.tables.specs.Sound.{table-refusal}
 use Rattle.tables.specs.Placed.{read-state}
 use Rattle.tables.specs.Formed.{LevelFormed}
 use Rattle.tables.specs.Words.{Fits32}
 use Rattle.tables.proofs.FormedSound.{sound-words}
+use Rattle.dockets.specs.Dockets.{docket-refusal}
+use Rattle.dockets.proofs.Refusals.{allowed-sound}
 use Rattle.lookup.specs.declared.Answer.{Answer}
 use Rattle.lookup.specs.declared.Answer.the-variants.{Refused, Absent, Found}
 use Rattle.lookup.specs.Lookup.{answered, lookup-tables}
@@ -54,12 +55,10 @@ answered-told (model.found a t) s = s
 
 pub found-stamped : (e l : List ℕ) (k : ℕ) → Fits32 e → Told (lookup-tables e l k)
 unfolding lookup-tables
-found-stamped e l k w = go (eqb (table-refusal e l) 0) refl (ltb 65535 k)
+found-stamped e l k w = go (eqb (docket-refusal e l k k) 0) refl
   where
-    go : (b : Bool) → eqb (table-refusal e l) 0 ≡ b → (c : Bool)
-        → Told (cond b (cond c (Refused 4) (answered (model.lookup (read-state e l .levels) k))) (Refused (table-refusal e l)))
-    go true q true = tt
-    go true q false =
-        let f = sound-words e l w (eqb-true (table-refusal e l) 0 q) in
+    go : (b : Bool) → eqb (docket-refusal e l k k) 0 ≡ b → Told (cond b (answered (model.lookup (read-state e l .levels) k)) (Refused (docket-refusal e l k k)))
+    go true q =
+        let f = sound-words e l w (allowed-sound e l k k (eqb-true (docket-refusal e l k k) 0 q)) in
         answered-told (model.lookup (read-state e l .levels) k) (lookup-stamped (read-state e l .clock) (read-state e l .levels) k (f .formed .levels-ok))
-    go false q c = tt
+    go false q = tt
