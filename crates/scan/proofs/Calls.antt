@@ -31,13 +31,13 @@ use denote.Triple.Clauses.{ensured, lasts}
 use denote.Triple.Spec.{tripleOf}
 use denote.Triple.Walked.{says}
 use Rattle.scan.specs.declared.Row.{Row}
-use Rattle.sweep.specs.declared.Sweep.{Sweep}
+use Rattle.steps.specs.declared.Sweep.{Sweep}
 use Rattle.scan.specs.declared.Scanned.{Scanned}
-use Rattle.sweep.specs.Sweeps.{Sweeping, rest, rows-from}
+use Rattle.steps.specs.Sweeps.{Sweeping, rest, rows-from}
 use Rattle.dockets.specs.Dockets.{docket-refusal}
 use Rattle.scan.specs.Scan.{Opened, row-at, has-row, closed}
-use Rattle.sweep.proofs.Sweep as S
-use Rattle.sweep.proofs.Sweep.Laws as S′
+use Rattle.steps.proofs.Sweep as S
+use Rattle.steps.proofs.Sweep.Laws as S′
 use Rattle.scan.proofs.Row as T
 use Rattle.scan.proofs.Scanned as C
 use Rattle.dockets.proofs.docket_refusal as refusal-fn

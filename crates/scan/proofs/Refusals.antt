@@ -12,8 +12,8 @@ use Rattle.dockets.specs.Dockets.{docket-refusal}
 use Rattle.dockets.proofs.Refusals.{allowed-sound}
 use Rattle.level_lookup.specs.Readable.{Readable}
 use Rattle.level_lookup.proofs.Sound.{readable}
-use Rattle.sweep.specs.declared.Sweep.{Sweep}
-use Rattle.sweep.specs.Sweeps.{Sweeping, is-live, rows-from}
+use Rattle.steps.specs.declared.Sweep.{Sweep}
+use Rattle.steps.specs.Sweeps.{Sweeping, is-live, rows-from}
 use Rattle.scan.specs.Scan.{Opened}
 
 module _ (e l : List ℕ) (lo hi : ℕ) where

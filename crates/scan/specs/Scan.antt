@@ -8,10 +8,10 @@ use lib.ListN.{length, drop}
 use Rattle.model.specs.Lookup as model
 use Rattle.tables.specs.Placed.{read-state}
 use Rattle.dockets.specs.Dockets.{docket-refusal}
-use Rattle.sweep.specs.declared.Sweep.{Sweep}
+use Rattle.steps.specs.declared.Sweep.{Sweep}
 use Rattle.scan.specs.declared.Row.{Row}
 use Rattle.scan.specs.declared.Scanned.{Scanned}
-use Rattle.sweep.specs.Sweeps.{Sweeping, is-live, rows-from}
+use Rattle.steps.specs.Sweeps.{Sweeping, is-live, rows-from}
 
 -- What a scan leaves: its answer, and the caller's rows.
 pub record Outcome : Type 0 where

@@ -1,6 +1,6 @@
 // Scan: the live dockets from lo to hi, written into the caller's rows.
 use dockets::docket_refusal;
-use sweep::Sweep;
+use steps::Sweep;
 use sweep::advance;
 use sweep::begin;
 use sweep::ended;

@@ -10,15 +10,15 @@ use Rattle.tables.specs.Words.{settings-of, level-row}
 use Rattle.tables.specs.Placed.{read-state}
 use Rattle.covers.proofs.Chains.{Words}
 use Rattle.level_lookup.specs.Readable.{Readable}
-use Rattle.sweep.specs.declared.Sweep.{Sweep}
+use Rattle.steps.specs.declared.Sweep.{Sweep}
 use Rattle.cursors.specs.Cursors.{coming, change, point-front, range-front, Ready}
 use Rattle.cursors.proofs.Opening.{Opened, opened}
 use Rattle.cursors.proofs.Passing.{Passed, passed}
-use Rattle.sweep.specs.Sweeps.{Sweeping, rest}
-use Rattle.sweep.proofs.Heads.{unchanged}
-use Rattle.sweep.proofs.Live.{live-onward}
-use Rattle.sweep.proofs.Coming.{says-read}
-use Rattle.sweep.proofs.Steps.{none-before}
+use Rattle.steps.specs.Sweeps.{Sweeping, rest}
+use Rattle.steps.proofs.Heads.{unchanged}
+use Rattle.steps.proofs.Live.{live-onward}
+use Rattle.steps.proofs.Coming.{says-read}
+use Rattle.steps.proofs.Steps.{none-before}
 
 -- A sweep that has not gone a step; no level is alone.
 abbrev begun : List ℕ → List ℕ → ℕ → ℕ → Sweep

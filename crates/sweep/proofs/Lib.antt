@@ -1,9 +1,3 @@
--- Laws of a sweep.
-pub mod Live
-pub mod Seeks
-pub mod Coming
-pub mod Heads
-pub mod Steps
-pub mod AloneSteps
+-- Laws of a sweep that begins, and of its steps by all levels.
 pub mod TogetherSteps
 pub mod Begins

@@ -8,12 +8,13 @@ use Rattle.covers.proofs.Chains.{Words}
 use Rattle.level_lookup.specs.declared.Decided.{Decided}
 use Rattle.level_lookup.specs.Answers.{levels-decide, settle}
 use Rattle.level_lookup.proofs.Answers.{levels-settle}
-use Rattle.sweep.specs.declared.Sweep.{Sweep}
+use Rattle.steps.specs.declared.Sweep.{Sweep}
 use Rattle.cursors.specs.Cursors.{coming, next-lo, change, point-front, range-front}
 use Rattle.cursors.proofs.Passing.{Passed, passed}
-use Rattle.sweep.specs.Sweeps.{heads, regrouped, told, to-come, Sweeping, Foremost, Stepped}
-use Rattle.sweep.proofs.Heads.{unchanged}
-use Rattle.sweep.proofs.Steps.{Passing, stepped-on, stepped-found}
+use Rattle.steps.specs.Sweeps.{heads, told, to-come, Sweeping, Foremost, Stepped}
+use Rattle.sweep.specs.Sweeps.{regrouped}
+use Rattle.steps.proofs.Heads.{unchanged}
+use Rattle.steps.proofs.Steps.{Passing, stepped-on, stepped-found}
 
 module _ {e : List ℕ} {m : Sweep} {k : ℕ} (s : Sweeping e m) (is : k ≡ next-lo e (heads m) (m .level)) (f : Foremost e m) where
   pub together-least : (i : ℕ) → i < m .levels → k ≤ next-lo e (heads m) i

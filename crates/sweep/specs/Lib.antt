@@ -1,2 +1,2 @@
--- A sweep: the live dockets that are still to come.
+-- A sweep that begins, changes its levels and ends.
 pub mod Sweeps

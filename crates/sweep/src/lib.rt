@@ -1,58 +1,27 @@
-// The live dockets of sound tables in ascending order, one after the other. Each record is passed once: mostly one level goes on
-// alone for a while, or two by turns, and only where another level may have a say are all levels asked.
-use covers::seek;
+// The live dockets of sound tables in ascending order, one after the other. Each record is passed once: mostly by a step of the two
+// levels that lead, and only where another level may have a say are all levels asked.
 use cursors::look;
 use cursors::move_to;
 use cursors::open;
 use leads::key_at;
 use leads::leaders;
-use leads::lesser;
 use level_lookup::Decided;
-use rows::kind_of;
-use rows::stamp_of;
-use rows::tally_of;
+use steps::ARRIVED;
+use steps::BLOCKED;
+use steps::SEARCHING;
+use steps::Sweep;
+use steps::go_alone;
+use steps::near;
+use steps::none;
+use steps::stand;
 ghost use mathlib.Core.Path.{_≡_};
 ghost use Prim.Native.Nat.{_<_, _≤_};
 ghost use Rattle.model.specs.Lookup.{lookup, live};
 ghost use Rattle.tables.specs.Placed.{read-state};
 ghost use Rattle.level_lookup.specs.Readable.{Readable};
 ghost use Rattle.cursors.specs.Cursors.{next-lo};
-ghost use Rattle.sweep.specs.Sweeps.{heads, swapped, regrouped, told, standing, over, Sweeping, Foremost, Tried, Stepped, rest, rows-from};
-
-// The kind of a put.
-const PUT: u32 = 1;
-
-// How a sweep stands: it has come to a live docket, or to none.
-const ARRIVED: u32 = 0;
-
-// It is on its way.
-const SEARCHING: u32 = 1;
-
-// It is on its way, and neither of its two levels can go on alone.
-const BLOCKED: u32 = 2;
-
-// The first point and the first range that each of some levels still has to come; the level that goes on alone, its first point
-// (its slot), and the docket before which it is alone; a second level, its first point (which waits), and the docket before which
-// the two are alone; the last docket that is asked for; how the sweep stands (going), whether it has come to a live docket (1 or
-// 0), and to which. Numbers that are written together do not stand side by side: read as one word before they have reached memory,
-// they would have to be waited for. No field is a bool: the gap beside it would be copied byte by byte.
-pub struct Sweep {
-    pub slot: usize,
-    pub points: [usize; 7],
-    pub level: usize,
-    pub ranges: [usize; 7],
-    pub levels: usize,
-    pub key: u32,
-    pub live: u32,
-    pub value: u32,
-    pub going: u32,
-    pub stamp: u32,
-    pub hi: u32,
-    pub bound: u32,
-    pub reach: u32,
-    pub waiting: usize,
-    pub second: usize,
-}
+ghost use Rattle.steps.specs.Sweeps.{heads, told, Sweeping, Foremost, Stepped, rest, rows-from};
+ghost use Rattle.sweep.specs.Sweeps.{regrouped, over};
 
 // Comes to the first live docket from lo to hi.
 pub fn begin(e: &[u32], l: &[u32], lo: u32, hi: u32) -> Sweep
@@ -126,15 +95,6 @@ pub fn advance(e: &[u32], m: Sweep) -> Sweep
     stand(search(e, stand(r, SEARCHING)), ARRIVED)
 }
 
-// The same sweep, but for how it stands.
-fn stand(m: Sweep, going: u32) -> Sweep
-    ensures { λ r. ⌜ r ≡ standing m going ⌝ }
-{
-    let mut r = m;
-    r.going = going;
-    r
-}
-
 // Goes on, docket by docket, to the next live one.
 fn search(e: &[u32], m: Sweep) -> Sweep
     requires { ⌜ Sweeping (now e) m ⌝ }
@@ -158,39 +118,6 @@ fn step(e: &[u32], m: Sweep) -> Sweep
     if r.going == BLOCKED {
         return change_level(e, stand(m, SEARCHING));
     }
-    r
-}
-
-// One docket by the level that goes on alone or by the second, if one of them can.
-fn near(e: &[u32], m: Sweep) -> Sweep
-    requires { ⌜ Sweeping (now e) m ⌝ }
-    ensures { λ r. ⌜ Tried (now (e .entry)) m r ⌝ }
-{
-    let mut r = m;
-    r.going = SEARCHING;
-    let key = key_at(e, m.slot);
-    if key < m.bound {
-        return go_alone(e, r, key);
-    }
-    let next = key_at(e, m.waiting);
-    let bound = lesser(key, m.reach);
-    if next < bound {
-        return go_alone(e, swap(r, bound), next);
-    }
-    r.going = BLOCKED;
-    r
-}
-
-// The second level goes on, and the other waits: no cursor is written, so that two levels can go by turns at no cost.
-fn swap(m: Sweep, bound: u32) -> Sweep
-    ensures { λ r. ⌜ r ≡ swapped m bound ⌝ }
-{
-    let mut r = m;
-    r.slot = m.waiting;
-    r.level = m.second;
-    r.waiting = m.slot;
-    r.second = m.level;
-    r.bound = bound;
     r
 }
 
@@ -222,30 +149,6 @@ fn change_level(e: &[u32], m: Sweep) -> Sweep
         return go_alone(e, c, key);
     }
     go_together(e, c, key)
-}
-
-// The least docket to come, which no other level has and no level above has a range over.
-fn go_alone(e: &[u32], m: Sweep, key: u32) -> Sweep
-    requires { ⌜ Sweeping (now e) m ⌝ }
-    requires { ⌜ m .going ≡ 1 ⌝ }
-    requires { ⌜ key ≡ next-lo (now e) (heads m) (m .level) ⌝ }
-    requires { ⌜ key < m .bound ⌝ }
-    ensures { λ r. ⌜ Stepped (now (e .entry)) m r ⌝ }
-{
-    if m.hi < key {
-        return none(m);
-    }
-    let mut r = m;
-    r.slot = seek(e, m.slot, key + 1);
-    if kind_of(e, m.slot) != PUT {
-        return r;
-    }
-    r.going = ARRIVED;
-    r.live = 1;
-    r.key = key;
-    r.value = tally_of(e, m.slot);
-    r.stamp = stamp_of(e, m.slot);
-    r
 }
 
 // The least docket to come, asked of all levels.
@@ -299,15 +202,5 @@ fn found(m: Sweep, key: u32, value: u32, stamp: u32) -> Sweep
     r.key = key;
     r.value = value;
     r.stamp = stamp;
-    r
-}
-
-// No live docket is left.
-fn none(m: Sweep) -> Sweep
-    ensures { λ r. ⌜ r ≡ told m 0 0 (m .key) (m .value) (m .stamp) ⌝ }
-{
-    let mut r = m;
-    r.going = ARRIVED;
-    r.live = 0;
     r
 }

@@ -1,7 +1,7 @@
 -- `scan::open` meets its contract: tables of which no scan is refused are readable.
 use mathlib.Core.Path.{sym, ap, _∙_}
 use borrow.Author.Needs.{needs}
-use Rattle.sweep.specs.Sweeps.{is-live}
+use Rattle.steps.specs.Sweeps.{is-live}
 use Rattle.dockets.proofs.Refusals.{allowed-order, allowed-high}
 use Rattle.scan.proofs.Refusals.{allowed-readable, opened, unopened}
 use Rattle.scan.proofs.open.Statement.{statement}

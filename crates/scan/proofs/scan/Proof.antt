@@ -44,7 +44,7 @@ use denote.Triple.Table.{entered, cited}
 use denote.Triple.Walked.{Walks, walked, goes-slice, goes-dropped, walk-meets}
 use Rattle.lists.proofs.Bools.{by-cases}
 use Rattle.scan.specs.declared.Row.{Row}
-use Rattle.sweep.specs.declared.Sweep.{Sweep}
+use Rattle.steps.specs.declared.Sweep.{Sweep}
 use Rattle.scan.specs.declared.Scanned.{Scanned}
 use Rattle.dockets.specs.Dockets.{docket-refusal}
 use Rattle.scan.specs.Scan.{Outcome, written, has-row}
@@ -56,8 +56,8 @@ use Rattle.scan.proofs.Ends.{stayed}
 use Rattle.scan.proofs.Entry.{after, word, number, slice₁, slice₂, slice₅, Locals, Dies, Stored, enters, leaves}
 use Rattle.scan.proofs.Row as T
 use Rattle.scan.proofs.Row.Laws as T′
-use Rattle.sweep.proofs.Sweep as S
-use Rattle.sweep.proofs.Sweep.Laws as S′
+use Rattle.steps.proofs.Sweep as S
+use Rattle.steps.proofs.Sweep.Laws as S′
 use Rattle.scan.proofs.Scanned as C
 use Rattle.scan.proofs.Scanned.Laws as C′
 use Rattle.dockets.proofs.docket_refusal.Symbol as docket-refusal-def

@@ -1,7 +1,7 @@
 -- `sweep::advance` meets its contract: one of the two levels comes to the next live docket, or the search does.
 use borrow.Author.Needs.{needs}
-use Rattle.sweep.proofs.Heads.{told-sweeping}
-use Rattle.sweep.proofs.Steps.{tried-arrived, tried-on}
+use Rattle.steps.proofs.Heads.{told-sweeping}
+use Rattle.steps.proofs.Steps.{tried-arrived, tried-on}
 use Rattle.sweep.proofs.advance.Statement.{statement}
 use Rattle.sweep.proofs.advance.Tie as tie
 

@@ -3,8 +3,8 @@ use mathlib.Core.Path.{_≡_, _∙_}
 use native.Mathlib.Omega.{arith}
 use borrow.Author.Needs.{needs}
 use lib.ListN.{length, length-set}
-use Rattle.sweep.proofs.Heads.{waits, level-within, second-within, slot-ordered, slot-key, led, chooses, chosen-foremost}
-use Rattle.sweep.proofs.Steps.{stepped-alike}
+use Rattle.steps.proofs.Heads.{waits, level-within, second-within, slot-ordered, slot-key, led, chooses, chosen-foremost}
+use Rattle.steps.proofs.Steps.{stepped-alike}
 use Rattle.sweep.proofs.change_level.Statement.{statement}
 use Rattle.sweep.proofs.change_level.Tie as tie
 

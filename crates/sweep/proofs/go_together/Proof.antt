@@ -1,7 +1,7 @@
 -- `sweep::go_together` meets its contract: the look says what is to come of the least docket, and all levels move past it.
 use mathlib.Core.Path.{refl}
 use borrow.Author.Needs.{needs}
-use Rattle.sweep.proofs.Steps.{stepped-none}
+use Rattle.steps.proofs.Steps.{stepped-none}
 use Rattle.sweep.proofs.TogetherSteps.{together-least, together-passed, together-on, together-found}
 use Rattle.sweep.proofs.go_together.Statement.{statement}
 use Rattle.sweep.proofs.go_together.Tie as tie

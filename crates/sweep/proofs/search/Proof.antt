@@ -1,9 +1,9 @@
 -- `sweep::search` meets its contract. The loop's invariant: the sweep lists what it had to come.
 use mathlib.Core.Path.{_≡_, refl, _∙_}
 use borrow.Author.Tests.{eq-eqb}
-use Rattle.sweep.specs.Sweeps.{Sweeping, rest, listed}
-use Rattle.sweep.proofs.Heads.{told-sweeping}
-use Rattle.sweep.proofs.Steps.{steps-left, listed-same, fewer-steps}
+use Rattle.steps.specs.Sweeps.{Sweeping, rest, listed}
+use Rattle.steps.proofs.Heads.{told-sweeping}
+use Rattle.steps.proofs.Steps.{steps-left, listed-same, fewer-steps}
 use Rattle.sweep.proofs.search.Statement.{statement}
 use Rattle.sweep.proofs.search.Tie as tie
 

@@ -1,8 +1,8 @@
 -- `sweep::step` meets its contract: a step by one of the two levels, or by another.
 use mathlib.Core.Path.{refl}
 use borrow.Author.Needs.{needs}
-use Rattle.sweep.proofs.Heads.{told-sweeping}
-use Rattle.sweep.proofs.Steps.{stood-stepped, tried-stepped}
+use Rattle.steps.proofs.Heads.{told-sweeping}
+use Rattle.steps.proofs.Steps.{stood-stepped, tried-stepped}
 use Rattle.sweep.proofs.step.Statement.{statement}
 use Rattle.sweep.proofs.step.Tie as tie
 

@@ -12,12 +12,12 @@ use borrow.Author.Tests.{ne-eqb, eqb-false}
 use Rattle.lists.proofs.Bools.{cond-elim}
 use Rattle.model.specs.Lookup.{absent, found, add-row, lookup}
 use Rattle.covers.proofs.Chains.{Words}
-use Rattle.sweep.specs.declared.Sweep.{Sweep}
+use Rattle.steps.specs.declared.Sweep.{Sweep}
 use Rattle.cursors.specs.Cursors.{coming, next-lo, least-lo, Ready}
-use Rattle.sweep.specs.Sweeps.{heads, told, standing, to-come, Sweeping, Stepped, Tried, rest, rows-from, listed, ahead}
-use Rattle.sweep.proofs.Heads.{Alike, told-sweeping}
-use Rattle.sweep.proofs.Live.{live-none, live-pass}
-use Rattle.sweep.proofs.Coming.{points-before, absent-all}
+use Rattle.steps.specs.Sweeps.{heads, told, standing, to-come, Sweeping, Stepped, Tried, rest, rows-from, listed, ahead}
+use Rattle.steps.proofs.Heads.{Alike, told-sweeping}
+use Rattle.steps.proofs.Live.{live-none, live-pass}
+use Rattle.steps.proofs.Coming.{points-before, absent-all}
 
 -- The least key to come is no later than each, and no earlier than what is no later than each.
 module _ (e cursors : List ℕ) where

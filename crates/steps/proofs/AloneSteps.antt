@@ -17,13 +17,13 @@ use Rattle.covers.specs.Skips.{first-slot, beginning}
 use Rattle.covers.proofs.Chains.{On, Words, chain-end, go-on}
 use Rattle.covers.proofs.Skips.{front-ordered}
 use Rattle.level_lookup.proofs.Walks.{points-say, points-here}
-use Rattle.sweep.specs.declared.Sweep.{Sweep}
+use Rattle.steps.specs.declared.Sweep.{Sweep}
 use Rattle.cursors.specs.Cursors.{first-lo, next-lo}
-use Rattle.sweep.specs.Sweeps.{heads, moved, told, to-come, Sweeping, Stepped}
-use Rattle.sweep.proofs.Seeks.{seek-says, seek-first}
-use Rattle.sweep.proofs.Coming.{points-before, ranges-before, says-at, says-same}
-use Rattle.sweep.proofs.Heads.{waits, level-within, slot-there, slot-ordered, slot-key, alone-points, alone-ranges}
-use Rattle.sweep.proofs.Steps.{Passing, stepped-on, stepped-found}
+use Rattle.steps.specs.Sweeps.{heads, moved, told, to-come, Sweeping, Stepped}
+use Rattle.steps.proofs.Seeks.{seek-says, seek-first}
+use Rattle.steps.proofs.Coming.{points-before, ranges-before, says-at, says-same}
+use Rattle.steps.proofs.Heads.{waits, level-within, slot-there, slot-ordered, slot-key, alone-points, alone-ranges}
+use Rattle.steps.proofs.Steps.{Passing, stepped-on, stepped-found}
 
 module _ {e : List ℕ} {m : Sweep} {k : ℕ} (s : Sweeping e m) (is : k ≡ next-lo e (heads m) (m .level)) (lt : k < m .bound) where
   pub alone-least : (i : ℕ) → i < m .levels → k ≤ next-lo e (heads m) i

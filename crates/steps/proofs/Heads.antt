@@ -9,12 +9,12 @@ use lib.ListN.{length, getD, set, length-set}
 use lib.Seq.{getD-set-same, getD-set-other, set-getD, set-comm}
 use Rattle.tables.specs.Sound.{chain-from}
 use Rattle.covers.specs.Walks.{Ordered}
-use Rattle.sweep.specs.declared.Sweep.{Sweep}
+use Rattle.steps.specs.declared.Sweep.{Sweep}
 use Rattle.leads.specs.declared.Pair.{Pair}
 use Rattle.cursors.specs.Cursors.{first-lo, next-lo}
 use Rattle.leads.specs.Leads.{leading}
 use Rattle.leads.proofs.Leading.{Leads, leads}
-use Rattle.sweep.specs.Sweeps.{heads, swapped, told, Sweeping, Foremost}
+use Rattle.steps.specs.Sweeps.{heads, swapped, told, Sweeping, Foremost}
 
 -- The same to come, and other levels may go on.
 pub record Alike (e : List ℕ) (m r : Sweep) : Type 0 where

@@ -1,10 +1,10 @@
--- `sweep::near` meets its contract: a step by the level that was alone or by the second, or none.
+-- `steps::near` meets its contract: a step by the level that was alone or by the second, or none.
 use mathlib.Core.Path.{refl, _∙_}
 use borrow.Author.Needs.{needs}
-use Rattle.sweep.proofs.Heads.{told-sweeping, slot-ordered, slot-key, waiting-ordered, swaps}
-use Rattle.sweep.proofs.Steps.{stepped-alike, stood-tried, blocked-tried}
-use Rattle.sweep.proofs.near.Statement.{statement}
-use Rattle.sweep.proofs.near.Tie as tie
+use Rattle.steps.proofs.Heads.{told-sweeping, slot-ordered, slot-key, waiting-ordered, swaps}
+use Rattle.steps.proofs.Steps.{stepped-alike, stood-tried, blocked-tried}
+use Rattle.steps.proofs.near.Statement.{statement}
+use Rattle.steps.proofs.near.Tie as tie
 
 key-at-requires : tie.Need-key-at-requires
 key-at-requires c κs = slot-ordered _ _ (c .before .pre)

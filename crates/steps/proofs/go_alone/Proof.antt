@@ -1,11 +1,11 @@
--- `sweep::go_alone` meets its contract: the point at the slot is what is to come of its docket, and passing it passes the docket.
+-- `steps::go_alone` meets its contract: the point at the slot is what is to come of its docket, and passing it passes the docket.
 use mathlib.Core.Path.{sym, _∙_}
 use borrow.Author.Needs.{needs}
-use Rattle.sweep.proofs.Heads.{slot-ordered}
-use Rattle.sweep.proofs.Steps.{stepped-none}
-use Rattle.sweep.proofs.AloneSteps.{alone-least, alone-point, alone-on, alone-found}
-use Rattle.sweep.proofs.go_alone.Statement.{statement}
-use Rattle.sweep.proofs.go_alone.Tie as tie
+use Rattle.steps.proofs.Heads.{slot-ordered}
+use Rattle.steps.proofs.Steps.{stepped-none}
+use Rattle.steps.proofs.AloneSteps.{alone-least, alone-point, alone-on, alone-found}
+use Rattle.steps.proofs.go_alone.Statement.{statement}
+use Rattle.steps.proofs.go_alone.Tie as tie
 
 none-requires : tie.Need-none-requires
 none-requires c κs = search needs
