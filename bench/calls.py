@@ -38,8 +38,8 @@ SHAPES = {
 IN_LOOKUPS = """## A scan of all live dockets, in lookups on the same tables
 
 Proved, and in brackets C. Each round goes through all sizes, and at each times lookups of live dockets, scans of all, and lookups again, on the same tables; so
-a change of the machine's speed falls on both. Medians of 41 rounds; the last column is the median of what each round found at 65,535 over what it found at
-4,000.
+a change of the machine's speed falls on both. Medians of 41 rounds. The last column is what a round found at 65,535 over what it found at 4,000: the median, and
+between which numbers the middle half of the rounds lies.
 """
 
 
@@ -56,7 +56,7 @@ class Scanned:
 
     def __init__(self, line):
         self.shape, slots, *times = line.split("\t")
-        self.slots, (self.lookup, self.scan, self.native, self.ratio, self.lookups, self.native_lookups, self.growth) = int(slots), map(float, times)
+        self.slots, (self.lookup, self.scan, self.native, self.ratio, self.lookups, self.native_lookups, self.growth, self.least, self.most) = int(slots), map(float, times)
 
 
 def measure(program, kind):
@@ -81,10 +81,14 @@ def meanings(head, words):
     return table(head, ([name, meaning] for name, meaning in words.items()))
 
 
+def grown(scanned):
+    return f"{scanned.growth:.2f} ({scanned.least:.2f} to {scanned.most:.2f})"
+
+
 def scans_in_lookups(scans):
     sizes = sorted({s.slots for s in scans})
     found = {(s.shape, s.slots): s for s in scans}
-    rows = ([shape, *(f"{found[shape, n].lookups:.2f} ({found[shape, n].native_lookups:.2f})" for n in sizes), f"{found[shape, sizes[-1]].growth:.2f}"] for shape in SHAPES)
+    rows = ([shape, *(f"{found[shape, n].lookups:.2f} ({found[shape, n].native_lookups:.2f})" for n in sizes), grown(found[shape, sizes[-1]])] for shape in SHAPES)
     return table(["Tables", *(f"N = {n:,}" for n in sizes), "growth"], rows)
 
 

@@ -1,6 +1,7 @@
 /* Times scans of all dockets beside lookups of live ones on the same tables, in the same rounds at every size, by the archive and in
    plain C. Prints a line for each shape and size: shape, slots, microseconds a lookup and a scan proved, a scan in C, the proved scan's
-   time over C's, what a scan costs in lookups, proved and in C, and how much that is of the same at 4,000 slots. */
+   time over C's, what a scan costs in lookups, proved and in C, and how much the former is of the same at 4,000 slots: the median of the
+   rounds, and the quarters. */
 #include "random.h"
 #include "tables.h"
 #include "timing.h"
@@ -81,7 +82,8 @@ static void measure(enum shape shape) {
         double *columns[] = {lookup[k], scan[k], native[k], ratio[k], lookups[k], native_lookups[k], growth[k]};
         printf("%s\t%u", names[shape], sizes[k].slots);
         for (size_t c = 0; c < sizeof columns / sizeof *columns; c++) printf("\t%.4f", median(columns[c], ROUNDS));
-        printf("\n");
+        /* The median has left them sorted. */
+        printf("\t%.4f\t%.4f\n", growth[k][ROUNDS / 4], growth[k][ROUNDS * 3 / 4]);
     }
     fflush(stdout);
 }

@@ -82,6 +82,17 @@ class Names(unittest.TestCase):
                         lost.append(f"{page.name}:{number}: {crate}::{name}")
         self.assertEqual(lost, [])
 
+    def test_edits(self):
+        """crate/edit, and how many edits each crate has."""
+        text = (ROOT / "docs" / "THEOREMS.md").read_text()
+        cited = [(crate, edit) for crate, edit in re.findall(r"`(\w+)/(\w+)`", text) if (CRATES / crate).is_dir() and edit not in ("specs", "proofs", "src")]
+        self.assertEqual([c for c in cited if not (CRATES / c[0] / "must-fail" / f"{c[1]}.edit").is_file()], [])
+        total, counts = re.search(r"are (\d+):((?:\s*`\w+`\s+\d+[,.])+)", text).groups()
+        told = {crate: int(count) for crate, count in re.findall(r"`(\w+)`\s+(\d+)", counts)}
+        found = {path.name: len(list((path / "must-fail").glob("*.edit"))) for path in CRATES.iterdir()}
+        self.assertEqual(told, {crate: count for crate, count in found.items() if count})
+        self.assertEqual(int(total), sum(told.values()))
+
     def test_every_crate_is_told(self):
         listed = {line.split(":")[0] for line in (ROOT / "crates.txt").read_text().split("\n") if ":" in line and not line.startswith("#")}
         for page in (ROOT / "README.md", ROOT / "docs" / "ARCHITECTURE.md"):
