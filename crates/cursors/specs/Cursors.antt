@@ -1,5 +1,4 @@
 -- Cursors: for each level the first point and the first range that are still to come, as two lists of slots.
-use mathlib.Core.Path.{_≡_}
 use mathlib.Core.List.{List, [], _∷_}
 use Prim.Native.Nat.{ℕ, zero, suc, _<_, _≤_, min}
 use lib.ListN.{length, getD, set}

@@ -1,5 +1,5 @@
 -- The two levels that lead: what is known of them, and of the two so far while the levels are gone through.
-use mathlib.Core.Path.{_≡_, refl, _∙_}
+use mathlib.Core.Path.{_≡_, refl}
 use mathlib.Core.Logic.{_≢_}
 use mathlib.Core.Bool.{false}
 use mathlib.Core.List.{List}

@@ -1,10 +1,10 @@
 -- How large the numbers of a scan's answer can be: as many rows as there are dockets, a docket, and the last refusal.
 use mathlib.Core.Path.{_≡_}
-use mathlib.Core.Bool.{Bool, true, false, cond, _||_}
+use mathlib.Core.Bool.{Bool, true, false, cond}
 use mathlib.Core.List.{List, [], _∷_}
 use Prim.Native.Nat.{ℕ, zero, suc, _-_, _<_, _≤_}
 use native.Mathlib.Omega.{arith}
-use lib.Dec.{eqb, ltb}
+use lib.Dec.{eqb}
 use lib.ListN.{length, drop, length-take}
 use borrow.Author.Tests.{eqb-true}
 use Rattle.lists.specs.All.{All}

@@ -1,6 +1,5 @@
 -- `marks::mark` adds the bit's power, which fits the byte because the bit was 0.
-use mathlib.Core.Path.{refl}
-use Prim.Native.Nat.{ℕ, _/_, _%_, _<_}
+use Prim.Native.Nat.{_/_, _%_, _<_}
 use native.Mathlib.Omega.{arith}
 use lib.ListN.{getD}
 use borrow.Author.Needs.{needs}
