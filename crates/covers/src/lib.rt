@@ -10,9 +10,6 @@ ghost use Rattle.tables.specs.Placed.{read-range};
 ghost use Rattle.covers.specs.Walks.{Ordered};
 ghost use Rattle.covers.specs.Skips.{first-slot, beginning, reaching};
 
-// Lo and hi are stacked in a word at this base.
-const BASE: u32 = 65536;
-
 // Walks the records, which ascend by lo, no farther than the docket.
 pub fn is_covered(e: &[u32], head: usize, docket: u32) -> bool
     requires { ⌜ Ordered (now e) head ⌝ }
@@ -20,11 +17,12 @@ pub fn is_covered(e: &[u32], head: usize, docket: u32) -> bool
 {
     let mut at = head;
     while at != 0 {
-        let span = e[4 * at + 1];
-        if docket < span % BASE {
+        let lo = lo_of(e, at);
+        let hi = hi_of(e, at);
+        if docket < lo {
             return false;
         }
-        if docket <= span / BASE {
+        if docket <= hi {
             return true;
         }
         at = next_of(e, at);

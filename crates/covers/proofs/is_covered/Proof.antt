@@ -18,45 +18,37 @@ abbrev μ-loop : tie.MeasureT-loop
 loop-holds : tie.Need-loop-holds Inv-loop μ-loop
 loop-holds c = (c .before .pre, refl)
 
-mul-span : tie.Need-mul-span Inv-loop μ-loop
-mul-span c = let on = go-on _ _ (c .before .loop .inv .0) (c .loop-test .taken) in omega arith
+lo-of-requires : tie.Need-lo-of-requires Inv-loop μ-loop
+lo-of-requires c κs = go-on _ _ (c .before .loop .inv .0) (c .loop-test .taken) .within
 
-add-span : tie.Need-add-span Inv-loop μ-loop
-add-span c = let on = go-on _ _ (c .before .loop .inv .0) (c .loop-test .taken) in omega arith
-
-mul-span-2 : tie.Need-mul-span-2 Inv-loop μ-loop
-mul-span-2 c = let on = go-on _ _ (c .before .loop .inv .0) (c .loop-test .taken) in omega arith
-
-shared-slice-read-span : tie.Need-shared-slice-read-span Inv-loop μ-loop
-shared-slice-read-span c =
-    let on = go-on _ _ (c .before .before .loop .inv .0) (c .before .loop-test .taken) in
-    omega arith
+hi-of-requires : tie.Need-hi-of-requires Inv-loop μ-loop
+hi-of-requires c κs = go-on _ _ (c .before .before .loop .inv .0) (c .before .loop-test .taken) .within
 
 returns : tie.Need-returns Inv-loop μ-loop
 returns c =
-    let on = go-on _ _ (c .before .before .before .loop .inv .0) (c .before .before .loop-test .taken) in
-    sym (ranges-past _ _ _ on (λ i. omega (arith, c .before .shared-slice-known2 .given i)) (omega arith))
-    ∙ c .before .before .before .loop .inv .1
+    let on = go-on _ _ (c .before .before .before .before .loop .inv .0) (c .before .before .before .loop-test .taken) in
+    sym (ranges-past _ _ _ on (λ i. omega (arith, c .before .before .before .before .before .shared-slice-known .given i)) (omega (arith, c .before .before .lo-of .ensures)))
+    ∙ c .before .before .before .before .loop .inv .1
 
 returns-2 : tie.Need-returns-2 Inv-loop μ-loop
 returns-2 c =
-    let on = go-on _ _ (c .before .before .before .before .loop .inv .0) (c .before .before .before .loop-test .taken) in
-    sym (ranges-here _ _ _ on (omega arith) (omega arith)) ∙ c .before .before .before .before .loop .inv .1
+    let on = go-on _ _ (c .before .before .before .before .before .loop .inv .0) (c .before .before .before .before .loop-test .taken) in
+    sym (ranges-here _ _ _ on (omega (arith, c .before .before .before .lo-of .ensures)) (omega (arith, c .before .before .hi-of .ensures)))
+    ∙ c .before .before .before .before .before .loop .inv .1
 
 next-of-requires : tie.Need-next-of-requires Inv-loop μ-loop
-next-of-requires c κs =
-    go-on _ _ (c .before .before .before .before .loop .inv .0) (c .before .before .before .loop-test .taken) .within
+next-of-requires c κs = go-on _ _ (c .before .before .before .before .before .loop .inv .0) (c .before .before .before .before .loop-test .taken) .within
 
 loop-less : tie.Need-loop-less Inv-loop μ-loop
 loop-less c =
-    let on = go-on _ _ (c .before .before .before .before .before .loop .inv .0) (c .before .before .before .before .loop-test .taken) in
+    let on = go-on _ _ (c .before .before .before .before .before .before .loop .inv .0) (c .before .before .before .before .before .loop-test .taken) in
     rw (c .next-of .ensures) (shorter _ _ on)
 
 loop-again : tie.Need-loop-again Inv-loop μ-loop
 loop-again c =
-    let on = go-on _ _ (c .before .before .before .before .before .loop .inv .0) (c .before .before .before .before .loop-test .taken) in
+    let on = go-on _ _ (c .before .before .before .before .before .before .loop .inv .0) (c .before .before .before .before .before .loop-test .taken) in
     rw (c .next-of .ensures)
-    (on .rest, sym (ranges-next _ _ _ on (omega arith) (omega arith)) ∙ c .before .before .before .before .before .loop .inv .1)
+    (on .rest, sym (ranges-next _ _ _ on (omega (arith, c .before .before .before .before .lo-of .ensures)) (omega (arith, c .before .before .before .hi-of .ensures))) ∙ c .before .before .before .before .before .before .loop .inv .1)
 
 returns-3 : tie.Need-returns-3 Inv-loop μ-loop
 returns-3 c =
@@ -70,10 +62,8 @@ is-covered-spec =
     Inv-loop
     μ-loop
     loop-holds
-    mul-span
-    add-span
-    mul-span-2
-    shared-slice-read-span
+    lo-of-requires
+    hi-of-requires
     returns
     returns-2
     next-of-requires
