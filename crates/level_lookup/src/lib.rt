@@ -1,6 +1,10 @@
 // Lookup of one docket in one level, given by its two chains: the points first, then the ranges.
 use covers::is_covered;
+use rows::kind_of;
+use rows::lo_of;
 use rows::next_of;
+use rows::stamp_of;
+use rows::tally_of;
 ghost use mathlib.Core.Path.{_≡_};
 ghost use mathlib.Core.List.{map};
 ghost use Prim.Native.Nat.{_+_, _*_, _<_};
@@ -9,9 +13,6 @@ ghost use Rattle.tables.specs.Sound.{chain-from};
 ghost use Rattle.tables.specs.Placed.{read-point};
 ghost use Rattle.covers.specs.Walks.{Ordered};
 ghost use Rattle.level_lookup.specs.Answers.{tells, decides, chain-level, level-decides};
-
-// Slots are chained, and kinds stacked on them, at this base; so are lo and hi.
-const BASE: u32 = 65536;
 
 // The kind of a put.
 const PUT: u32 = 1;
@@ -43,10 +44,10 @@ fn tell(e: &[u32], slot: usize) -> Decided
     requires { ⌜ 4 * slot + 3 < length (now e) ⌝ }
     ensures { λ r. ⌜ r ≡ tells (read-point (now (e .entry)) slot .entry) (read-point (now (e .entry)) slot .stamp) ⌝ }
 {
-    if e[4 * slot] / BASE != PUT {
+    if kind_of(e, slot) != PUT {
         return Decided::Absent;
     }
-    Decided::Value(e[4 * slot + 2], e[4 * slot + 3])
+    Decided::Value(tally_of(e, slot), stamp_of(e, slot))
 }
 
 // Walks the points, which ascend, no farther than the docket.
@@ -56,7 +57,7 @@ fn find_point(e: &[u32], head: usize, docket: u32) -> Decided
 {
     let mut at = head;
     while at != 0 {
-        let key = e[4 * at + 1] % BASE;
+        let key = lo_of(e, at);
         if docket < key {
             return Decided::Deeper;
         }

@@ -1,4 +1,4 @@
--- `lookup::find_point` meets its contract. The loop's invariant: the chain from `at` is ordered, and its points say what those from `head` say.
+-- `level_lookup::find_point` meets its contract. The loop's invariant: the chain from `at` is ordered, and its points say what those from `head` say.
 use mathlib.Core.Path.{_≡_, refl, sym, _∙_}
 use native.Mathlib.Omega.{arith}
 use lib.ListN.{length}
@@ -18,38 +18,25 @@ abbrev μ-loop : tie.MeasureT-loop
 loop-holds : tie.Need-loop-holds Inv-loop μ-loop
 loop-holds c = (c .before .pre, refl)
 
-mul-key : tie.Need-mul-key Inv-loop μ-loop
-mul-key c = let on = go-on _ _ (c .before .loop .inv .0) (c .loop-test .taken) in omega arith
-
-add-key : tie.Need-add-key Inv-loop μ-loop
-add-key c = let on = go-on _ _ (c .before .loop .inv .0) (c .loop-test .taken) in omega arith
-
-mul-key-2 : tie.Need-mul-key-2 Inv-loop μ-loop
-mul-key-2 c = let on = go-on _ _ (c .before .loop .inv .0) (c .loop-test .taken) in omega arith
-
-shared-slice-read-key : tie.Need-shared-slice-read-key Inv-loop μ-loop
-shared-slice-read-key c =
-    let on = go-on _ _ (c .before .before .loop .inv .0) (c .before .loop-test .taken) in
-    omega arith
+lo-of-requires : tie.Need-lo-of-requires Inv-loop μ-loop
+lo-of-requires c κs = go-on _ _ (c .before .loop .inv .0) (c .loop-test .taken) .within
 
 returns : tie.Need-returns Inv-loop μ-loop
 returns c =
     let on = go-on _ _ (c .before .before .before .loop .inv .0) (c .before .before .loop-test .taken) in
-    sym (points-past _ _ _ on (λ i. omega (arith, c .before .shared-slice-known2 .given i)) (omega arith))
+    sym (points-past _ _ _ on (λ i. omega (arith, c .before .before .before .before .shared-slice-known .given i)) (omega (arith, c .before .lo-of .ensures)))
     ∙ c .before .before .before .loop .inv .1
 
 tell-requires : tie.Need-tell-requires Inv-loop μ-loop
-tell-requires c κs =
-    go-on _ _ (c .before .before .before .before .loop .inv .0) (c .before .before .before .loop-test .taken) .within
+tell-requires c κs = go-on _ _ (c .before .before .before .before .loop .inv .0) (c .before .before .before .loop-test .taken) .within
 
 returns-2 : tie.Need-returns-2 Inv-loop μ-loop
 returns-2 c =
     let on = go-on _ _ (c .before .before .before .before .before .loop .inv .0) (c .before .before .before .before .loop-test .taken) in
-    c .tell .ensures ∙ sym (points-here _ _ _ on (omega arith)) ∙ c .before .before .before .before .before .loop .inv .1
+    c .tell .ensures ∙ sym (points-here _ _ _ on (omega (arith, c .before .before .before .lo-of .ensures))) ∙ c .before .before .before .before .before .loop .inv .1
 
 next-of-requires : tie.Need-next-of-requires Inv-loop μ-loop
-next-of-requires c κs =
-    go-on _ _ (c .before .before .before .before .loop .inv .0) (c .before .before .before .loop-test .taken) .within
+next-of-requires c κs = go-on _ _ (c .before .before .before .before .loop .inv .0) (c .before .before .before .loop-test .taken) .within
 
 loop-less : tie.Need-loop-less Inv-loop μ-loop
 loop-less c =
@@ -60,7 +47,7 @@ loop-again : tie.Need-loop-again Inv-loop μ-loop
 loop-again c =
     let on = go-on _ _ (c .before .before .before .before .before .loop .inv .0) (c .before .before .before .before .loop-test .taken) in
     rw (c .next-of .ensures)
-    (on .rest, sym (points-next _ _ _ on (λ q. omega arith)) ∙ c .before .before .before .before .before .loop .inv .1)
+    (on .rest, sym (points-next _ _ _ on (λ q. omega (arith, c .before .before .before .lo-of .ensures))) ∙ c .before .before .before .before .before .loop .inv .1)
 
 returns-3 : tie.Need-returns-3 Inv-loop μ-loop
 returns-3 c =
@@ -74,10 +61,7 @@ find-point-spec =
     Inv-loop
     μ-loop
     loop-holds
-    mul-key
-    add-key
-    mul-key-2
-    shared-slice-read-key
+    lo-of-requires
     returns
     tell-requires
     returns-2
