@@ -2,6 +2,7 @@
 use rows::hi_of;
 use rows::kind_of;
 use rows::lo_of;
+use rows::span_of;
 use rows::stamp_of;
 use rows::tally_of;
 ghost use mathlib.Core.Path.{_≡_};
@@ -17,7 +18,7 @@ pub fn is_free(e: &[u32], s: usize) -> bool
     if kind_of(e, s) != 0 {
         return false;
     }
-    if e[4 * s + 1] != 0 {
+    if span_of(e, s) != 0 {
         return false;
     }
     if tally_of(e, s) != 0 {

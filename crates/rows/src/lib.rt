@@ -1,8 +1,8 @@
 // A row of a table read and written: what each word of a slot holds.
 ghost use mathlib.Core.Path.{_≡_};
 ghost use Prim.Native.Nat.{_+_, _*_, _<_};
-ghost use lib.ListN.{length};
-ghost use Rattle.tables.specs.Words.{set-row, next-of, kind-of, lo-of, hi-of, tally-of, stamp-of, slots-of};
+ghost use lib.ListN.{length, set};
+ghost use Rattle.tables.specs.Words.{set-row, row-of, next-of, kind-of, lo-of, hi-of, tally-of, stamp-of, slots-of};
 ghost use Rattle.tables.specs.Sound.{entries-fit, order-key};
 
 // Slots are chained, and kinds stacked on them, at this base; so are lo and hi.
@@ -48,6 +48,14 @@ pub fn kind_of(e: &[u32], slot: usize) -> u32
     e[4 * slot] / BASE
 }
 
+// Lo and hi in one word.
+pub fn span_of(e: &[u32], slot: usize) -> u32
+    requires { ⌜ 4 * slot + 3 < length (now e) ⌝ }
+    ensures { λ r. ⌜ r ≡ row-of (now (e .entry)) slot .w1 ⌝ }
+{
+    e[4 * slot + 1]
+}
+
 pub fn lo_of(e: &[u32], slot: usize) -> u32
     requires { ⌜ 4 * slot + 3 < length (now e) ⌝ }
     ensures { λ r. ⌜ r ≡ lo-of (now (e .entry)) slot ⌝ }
@@ -81,7 +89,7 @@ pub fn order_key(e: &[u32], s: usize) -> usize
     requires { ⌜ 4 * s + 3 < length (now e) ⌝ }
     ensures { λ r. ⌜ r ≡ order-key (now (e .entry)) s ⌝ }
 {
-    let span = e[4 * s + 1] as usize;
+    let span = span_of(e, s) as usize;
     span % 65536 * 65536 + span / 65536
 }
 
@@ -94,4 +102,30 @@ pub fn set_row(table: &mut [u32], row: usize, w0: u32, w1: u32, w2: u32, w3: u32
     table[4 * row + 1] = w1;
     table[4 * row + 2] = w2;
     table[4 * row + 3] = w3;
+}
+
+// Writes the next slot and the kind, which is stacked on it.
+pub fn set_link(e: &mut [u32], slot: usize, next: usize, kind: u32)
+    requires { ⌜ 4 * slot + 3 < length (now e) ⌝ }
+    requires { ⌜ next < 65536 ⌝ }
+    requires { ⌜ kind < 65536 ⌝ }
+    ensures { λ _. ⌜ now (e .exit) ≡ set (now (e .entry)) (4 * slot) (next + 65536 * kind) ⌝ }
+{
+    e[4 * slot] = next as u32 + BASE * kind;
+}
+
+pub fn set_stamp(e: &mut [u32], slot: usize, stamp: u32)
+    requires { ⌜ 4 * slot + 3 < length (now e) ⌝ }
+    ensures { λ _. ⌜ now (e .exit) ≡ set (now (e .entry)) (4 * slot + 3) stamp ⌝ }
+{
+    e[4 * slot + 3] = stamp;
+}
+
+// A put over a put changes no more than these two.
+pub fn set_value(e: &mut [u32], slot: usize, tally: u32, stamp: u32)
+    requires { ⌜ 4 * slot + 3 < length (now e) ⌝ }
+    ensures { λ _. ⌜ now (e .exit) ≡ set (set (now (e .entry)) (4 * slot + 2) tally) (4 * slot + 3) stamp ⌝ }
+{
+    e[4 * slot + 2] = tally;
+    e[4 * slot + 3] = stamp;
 }

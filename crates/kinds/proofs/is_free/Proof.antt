@@ -11,32 +11,23 @@ kind-of-requires c κs = search needs
 returns : tie.Need-returns
 returns c = rw (unequal (c .before .kind-of .ensures) refl (c .if1 .taken))
 
-mul-if2 : tie.Need-mul-if2
-mul-if2 c = search needs
-
-add-if2 : tie.Need-add-if2
-add-if2 c = search needs
-
-mul-if2-2 : tie.Need-mul-if2-2
-mul-if2-2 c = search needs
-
-shared-slice-read-if2 : tie.Need-shared-slice-read-if2
-shared-slice-read-if2 c = search needs
+span-of-requires : tie.Need-span-of-requires
+span-of-requires c κs = search needs
 
 returns-2 : tie.Need-returns-2
-returns-2 c = rw (equal (c .before .before .before .kind-of .ensures) refl (c .before .before .if1 .left), unequal refl refl (c .if2 .taken))
+returns-2 c = rw (equal (c .before .before .before .kind-of .ensures) refl (c .before .before .if1 .left), unequal (c .before .span-of .ensures) refl (c .if2 .taken))
 
 tally-of-requires : tie.Need-tally-of-requires
 tally-of-requires c κs = search needs
 
 returns-3 : tie.Need-returns-3
-returns-3 c = rw (equal (c .before .before .before .before .before .kind-of .ensures) refl (c .before .before .before .before .if1 .left), equal refl refl (c .before .before .if2 .left), unequal (c .before .tally-of .ensures) refl (c .if3 .taken))
+returns-3 c = rw (equal (c .before .before .before .before .before .kind-of .ensures) refl (c .before .before .before .before .if1 .left), equal (c .before .before .before .span-of .ensures) refl (c .before .before .if2 .left), unequal (c .before .tally-of .ensures) refl (c .if3 .taken))
 
 stamp-of-requires : tie.Need-stamp-of-requires
 stamp-of-requires c κs = search needs
 
 returns-4 : tie.Need-returns-4
-returns-4 c = rw (equal (c .before .before .before .before .before .before .kind-of .ensures) refl (c .before .before .before .before .before .if1 .left), equal refl refl (c .before .before .before .if2 .left), equal (c .before .before .tally-of .ensures) refl (c .before .if3 .left), c .stamp-of .ensures)
+returns-4 c = rw (equal (c .before .before .before .before .before .before .kind-of .ensures) refl (c .before .before .before .before .before .if1 .left), equal (c .before .before .before .before .span-of .ensures) refl (c .before .before .before .if2 .left), equal (c .before .before .tally-of .ensures) refl (c .before .if3 .left), c .stamp-of .ensures)
 
 pub is-free-spec : {M : Type 1} → statement M
 is-free-spec =
@@ -44,10 +35,7 @@ is-free-spec =
     (tie.spec
     kind-of-requires
     returns
-    mul-if2
-    add-if2
-    mul-if2-2
-    shared-slice-read-if2
+    span-of-requires
     returns-2
     tally-of-requires
     returns-3
