@@ -1,14 +1,14 @@
 // One slot of a chain changed: linked to another slot, wiped and freed, or stamped.
+use rows::kind_of;
+use rows::set_link;
 use rows::set_row;
+use rows::set_stamp;
 use rows::stamp_of;
 ghost use mathlib.Core.Path.{_≡_};
 ghost use Prim.Native.Nat.{_+_, _*_, _<_, max};
 ghost use lib.ListN.{length};
 ghost use Rattle.tables.specs.Words.{stamp-of};
 ghost use Rattle.links.specs.Links.{linked, released, stamped};
-
-// Slots are chained, and kinds stacked on them, at this base.
-const BASE: u32 = 65536;
 
 // The slot's stamp becomes the later of its own and another's.
 pub fn restamp(e: &mut [u32], slot: usize, other: usize)
@@ -17,18 +17,19 @@ pub fn restamp(e: &mut [u32], slot: usize, other: usize)
     ensures { λ _. ⌜ now (e .exit) ≡ stamped (now (e .entry)) slot (max (stamp-of (now (e .entry)) slot) (stamp-of (now (e .entry)) other)) ⌝ }
 {
     let stamp = stamp_of(e, other);
-    if e[4 * slot + 3] < stamp {
-        e[4 * slot + 3] = stamp;
+    if stamp_of(e, slot) < stamp {
+        set_stamp(e, slot, stamp);
     }
 }
 
-// The slot's next becomes another.
+// The slot's next becomes another; its kind stays.
 pub fn set_next(e: &mut [u32], slot: usize, next: usize)
     requires { ⌜ 4 * slot + 3 < length (now e) ⌝ }
     requires { ⌜ next < 65536 ⌝ }
     ensures { λ _. ⌜ now (e .exit) ≡ linked (now (e .entry)) slot next ⌝ }
 {
-    e[4 * slot] = e[4 * slot] / BASE * BASE + next as u32;
+    let kind = kind_of(e, slot);
+    set_link(e, slot, next, kind);
 }
 
 // A slot wiped, so that nothing of its record is left, and made the first of the free ones.
