@@ -2,6 +2,7 @@
 use level_rows::Level;
 use level_rows::level_at;
 use level_rows::set_level;
+use rows::set_value;
 use sieve::Doomed;
 use sieve::first_doomed;
 use sieve::sieve;
@@ -55,7 +56,6 @@ fn overwrite(e: &mut [u32], first: usize, clock: u32, docket: u32, tally: u32) -
     if slot == 0 {
         return false;
     }
-    e[4 * slot + 2] = tally;
-    e[4 * slot + 3] = clock;
+    set_value(e, slot, tally, clock);
     true
 }
