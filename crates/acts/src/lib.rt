@@ -2,7 +2,7 @@
 use level_rows::Level;
 use level_rows::level_at;
 use level_rows::set_level;
-use rows::set_value;
+use row_writes::set_value;
 use sieve::Doomed;
 use sieve::first_doomed;
 use sieve::sieve;

@@ -1,7 +1,7 @@
 // All chains checked: slot 0, the free chain and every level's, walked once over one set of marks.
 use forms::Class;
 use level_check::level;
-use rows::slot_count;
+use sizes::slot_count;
 use walks::walk;
 ghost use mathlib.Core.Path.{_≡_};
 ghost use Prim.Native.Nat.{_+_, _*_, _<_, _≤_};

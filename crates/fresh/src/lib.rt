@@ -1,5 +1,5 @@
 // The words of a fresh store, laid over whatever the two tables held before.
-use rows::set_row;
+use row_writes::set_row;
 use settings::Settings;
 ghost use mathlib.Core.Path.{_≡_};
 ghost use Prim.Native.Nat.{_+_, _*_, _≤_};

@@ -1,5 +1,5 @@
 // A level as its row of the level table tells it: read, written, and the earlier of two owed.
-use rows::set_row;
+use row_writes::set_row;
 ghost use mathlib.Core.Path.{_≡_};
 ghost use Prim.Native.Nat.{_+_, _*_, _<_, _≤_};
 ghost use lib.ListN.{length};

@@ -1,8 +1,8 @@
 // One slot of a chain changed: linked to another slot, wiped and freed, or stamped.
+use row_writes::set_link;
+use row_writes::set_row;
+use row_writes::set_stamp;
 use rows::kind_of;
-use rows::set_link;
-use rows::set_row;
-use rows::set_stamp;
 use rows::stamp_of;
 ghost use mathlib.Core.Path.{_≡_};
 ghost use Prim.Native.Nat.{_+_, _*_, _<_, max};

@@ -1,9 +1,9 @@
 // Makes a fresh store in two lent word tables, whatever they held before.
 use fresh::free_slots;
 use fresh::lay_levels;
-use rows::entries_fit;
 use settings::Checked;
 use settings::Settings;
+use sizes::entries_fit;
 ghost use mathlib.Core.Path.{_≡_};
 ghost use Rattle.make.specs.Make.{make-tables};
 

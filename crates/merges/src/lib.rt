@@ -2,7 +2,7 @@
 use join::join;
 use level_rows::level_at;
 use level_rows::set_level;
-use rows::set_row;
+use row_writes::set_row;
 ghost use Prim.Native.Nat.{_<_};
 ghost use Rattle.lists.specs.All.{Exists};
 ghost use Rattle.model.specs.Steps.{begin, merge-level, merge-all};

@@ -1,8 +1,8 @@
 // The soundness check of the two tables: their lengths and settings, then every chain.
 use chains_check::chains_fit;
-use rows::entries_fit;
 use settings::Checked;
 use settings::Settings;
+use sizes::entries_fit;
 ghost use mathlib.Core.Path.{_≡_};
 ghost use Rattle.tables.specs.Sound.{levels-fit, table-refusal};
 

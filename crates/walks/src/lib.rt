@@ -5,7 +5,7 @@ use marks::is_marked;
 use marks::mark;
 use rows::next_of;
 use rows::order_key;
-use rows::slot_count;
+use sizes::slot_count;
 ghost use mathlib.Core.Path.{_≡_};
 ghost use Prim.Native.Nat.{_+_, _*_, _<_};
 ghost use lib.ListN.{length};

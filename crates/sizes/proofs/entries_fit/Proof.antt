@@ -1,11 +1,11 @@
--- `rows::entries_fit`: each return decides the tests of the entry table's length.
+-- `sizes::entries_fit`: each return decides the tests of the entry table's length.
 use borrow.Author.Tests.{eq-eqb, ne-eqb}
 use Rattle.tables.specs.Sound.{entries-fit}
 use Rattle.lists.proofs.Branches.{upto, above}
 use mathlib.Core.Path.{refl}
 use borrow.Author.Needs.{needs}
-use Rattle.rows.proofs.entries_fit.Statement.{statement}
-use Rattle.rows.proofs.entries_fit.Tie as tie
+use Rattle.sizes.proofs.entries_fit.Statement.{statement}
+use Rattle.sizes.proofs.entries_fit.Tie as tie
 
 slot-count-requires : tie.Need-slot-count-requires
 slot-count-requires c κs = search needs

@@ -1,11 +1,11 @@
--- `rows::set_row` meets its contract: its four stores are those of `set-row`.
+-- `row_writes::set_row` meets its contract: its four stores are those of `set-row`.
 use mathlib.Core.Path.{refl}
 use native.Mathlib.Omega.{arith}
 use borrow.Author.Needs.{needs}
 use lib.ListN.{length-set}
 use Rattle.tables.specs.Words.{set-row}
-use Rattle.rows.proofs.set_row.Statement.{statement}
-use Rattle.rows.proofs.set_row.Tie as tie
+use Rattle.row_writes.proofs.set_row.Statement.{statement}
+use Rattle.row_writes.proofs.set_row.Tie as tie
 
 mul-table : tie.Need-mul-table
 mul-table c = search needs
