@@ -1,4 +1,4 @@
--- `cursors::key_at` meets its contract: a chain is empty, or begins with its first slot.
+-- `leads::key_at` meets its contract: a chain is empty, or begins with its first slot.
 use Rattle.covers.proofs.Chains.{chain-end, go-on}
 use Rattle.leads.proofs.key_at.Statement.{statement}
 use Rattle.leads.proofs.key_at.Tie as tie

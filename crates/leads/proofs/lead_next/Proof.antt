@@ -1,4 +1,4 @@
--- `cursors::lead_next` meets its contract: each way out is a branch of the definition.
+-- `leads::lead_next` meets its contract: each way out is a branch of the definition.
 use borrow.Author.Needs.{needs}
 use borrow.Author.Tests.{lt-ltb, le-ltb}
 use Rattle.leads.proofs.lead_next.Statement.{statement}

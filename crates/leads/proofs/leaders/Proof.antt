@@ -1,4 +1,4 @@
--- `cursors::leaders` meets its contract. The loop's invariant: the levels from i on, held against what is carried, give what all levels give.
+-- `leads::leaders` meets its contract. The loop's invariant: the levels from i on, held against what is carried, give what all levels give.
 use mathlib.Core.Path.{_≡_, sym, ap, _∙_}
 use Prim.Native.Nat.{_-_, _≤_}
 use native.Mathlib.Omega.{arith}

@@ -1,4 +1,4 @@
--- `lookup::look_chains` meets its contract: by a point of the docket, else by a range over it.
+-- `level_lookup::look_chains` meets its contract: by a point of the docket, else by a range over it.
 use mathlib.Core.Path.{_≡_, refl, sym, _∙_}
 use mathlib.Core.Logic.{_⊎_, ⊎-elim}
 use native.Mathlib.Omega.{arith}
