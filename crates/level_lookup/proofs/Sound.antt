@@ -24,6 +24,7 @@ pub readable : (e l : List ℕ) → table-refusal e l ≡ 0 → Readable e l
 readable e l h =
     let f = sound-facts e l h in
     record {
+      size = omega (arith, f .length-entries, f .many);
       rows = f .length-levels;
       deep = allowed-bounds (settings-of l) (f .settings-ok) .deepest-low;
       shallow = allowed-bounds (settings-of l) (f .settings-ok) .deepest-high;

@@ -7,6 +7,7 @@ use Rattle.tables.specs.Words.{settings-of, level-row}
 use Rattle.covers.specs.Walks.{Ordered}
 
 pub record Readable (e l : List ℕ) : Type 0 where
+  pub size : length e ≤ 262144
   pub rows : length l ≡ 4 * (settings-of l .deepest + 2)
   pub deep : 2 ≤ settings-of l .deepest
   pub shallow : settings-of l .deepest ≤ 6

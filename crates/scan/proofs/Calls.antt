@@ -48,8 +48,8 @@ use Rattle.scan.proofs.goes_on as goes-on
 use Rattle.scan.proofs.goes_on.Symbol.{name as #scan·goes-on}
 use Rattle.scan.proofs.row_of as row-of
 use Rattle.scan.proofs.row_of.Symbol.{name as #scan·row-of}
-use Rattle.sweep.proofs.advance as advance
-use Rattle.sweep.proofs.advance.Symbol.{name as #sweep·advance}
+use Rattle.scan.proofs.next as next
+use Rattle.scan.proofs.next.Symbol.{name as #scan·next}
 use Rattle.scan.proofs.close as close
 use Rattle.scan.proofs.close.Symbol.{name as #scan·close}
 
@@ -84,8 +84,8 @@ module _ {M : Type 1} (𝓤 : URA M) (H : Heap 𝓤) (A : Atoms 𝓤) (at-mem : 
   abbrev pub RowOf : Contract 𝓤
   RowOf = tripleOf 𝓤 H A row-of.signature (row-of.spec 𝓤 H A at-mem run)
 
-  abbrev pub Advance : Contract 𝓤
-  Advance = tripleOf 𝓤 H A advance.signature (advance.spec 𝓤 H A at-mem run)
+  abbrev pub Next : Contract 𝓤
+  Next = tripleOf 𝓤 H A next.signature (next.spec 𝓤 H A at-mem run)
 
   abbrev pub Close : Contract 𝓤
   Close = tripleOf 𝓤 H A close.signature (close.spec 𝓤 H A at-mem run)
@@ -96,7 +96,7 @@ module _ {M : Type 1} (𝓤 : URA M) (H : Heap 𝓤) (A : Atoms 𝓤) (at-mem : 
     pub open-first : Triple 𝓤 (𝓣 .C #scan·open) Open
     pub goes-on : Triple 𝓤 (𝓣 .C #scan·goes-on) GoesOn
     pub row-of : Triple 𝓤 (𝓣 .C #scan·row-of) RowOf
-    pub advance : Triple 𝓤 (𝓣 .C #sweep·advance) Advance
+    pub next : Triple 𝓤 (𝓣 .C #scan·next) Next
     pub close : Triple 𝓤 (𝓣 .C #scan·close) Close
 
   -- ---- what each is passed: its values, and their machine values
@@ -109,8 +109,8 @@ module _ {M : Type 1} (𝓤 : URA M) (H : Heap 𝓤) (A : Atoms 𝓤) (at-mem : 
   abbrev pub close-call : Sweep → Val → ℕ → ℕ → Val → Close .Ghost
   close-call m u i r w = ((tt, tt, tt, (m, (i, (r, tt))), (u ∷ [], (vint w64 i ∷ [], (w ∷ [], tt)))), tt)
 
-  abbrev pub advance-call : Lft → Share → RefT (List ℕ) → Sweep → Val → Advance .Ghost
-  advance-call κ q e m u = (((κ, tt), (q, tt), tt, (e, (m, tt)), (table-at e ∷ [], (u ∷ [], tt))), tt)
+  abbrev pub next-call : Lft → Share → RefT (List ℕ) → Sweep → Val → Next .Ghost
+  next-call κ q e m u = (((κ, tt), (q, tt), tt, (e, (m, tt)), (table-at e ∷ [], (u ∷ [], tt))), tt)
 
   abbrev pub docket-refusal-call : Lft → Lft → Share → Share → RefT (List ℕ) → RefT (List ℕ) → ℕ → ℕ → DocketRefusal .Ghost
   docket-refusal-call κ₁ κ₂ q₁ q₂ e l lo hi = (((κ₁, (κ₂, tt)), (q₁, (q₂, tt)), tt, (e, (l, (lo, (hi, tt)))), (table-at e ∷ [], (table-at l ∷ [], (vint w32 lo ∷ [], (vint w32 hi ∷ [], tt))))), tt)
@@ -136,9 +136,9 @@ module _ {M : Type 1} (𝓤 : URA M) (H : Heap 𝓤) (A : Atoms 𝓤) (at-mem : 
         qed W [] ∵ nothing ! $ nothing ! $ owned ! u32 (Is u32) (uint-makes 𝓤 H A W w32) r _ b $ fjoin ! $ owned ! usize (Is usize) (uint-makes 𝓤 H A W w64) i _ (refl, a) $ fjoin ! $
         owned ! S.the-row (Is S.the-row) sweep-made m _ is $ fjoin ! $ nothing ! $ join ! $ done !
 
-    advance-asked : (κ : Lft) (q : Share) (e : RefT (List ℕ)) (m : Sweep) (u : Val) → Is S.the-row m (u ∷ []) → Sweeping (e .now) m
-        → ent 𝓤 (sep 𝓤 (A .lft κ q) (sem 𝓤 H A (Entries κ e))) (Advance .pre (advance-call κ q e m u))
-    advance-asked κ q e m u is s =
+    next-asked : (κ : Lft) (q : Share) (e : RefT (List ℕ)) (m : Sweep) (u : Val) → Is S.the-row m (u ∷ []) → Sweeping (e .now) m
+        → ent 𝓤 (sep 𝓤 (A .lft κ q) (sem 𝓤 H A (Entries κ e))) (Next .pre (next-call κ q e m u))
+    next-asked κ q e m u is s =
         qed W (‵ (flft κ q) ∷ ‵ (Entries κ e) ∷ []) ∵ says ! s $ nothing ! $ move ! (1 ∷ 0 ∷ []) $ join ! $ frame ! $
         nothing ! $ owned ! S.the-row (Is S.the-row) sweep-made m _ is $ fjoin ! $ move ! (1 ∷ 0 ∷ []) $ fjoin ! $ done !
 
@@ -201,16 +201,16 @@ module _ {M : Type 1} {𝓤 : URA M} {H : Heap 𝓤} {A : Atoms 𝓤} {at-mem : 
       told t tt (‵ ftrue) C.the-row (ensured 𝓤 H A close.ended (close.clauses 𝓤 H A at-mem run) tt (m, (i, (r, tt))) tt) (λ a. a ≡ closed m i r)
       (λ a. exE 𝓤 _ (λ ws. snd∗ 𝓤 (sem 𝓤 H A (lasts close.ended tt (m, (i, (r, tt))) ws)) (fact 𝓤 (a ≡ closed m i r)))) v (λ a is′ e. drop t $ k v a is′ e))
 
-  pub calls-advance : K → (known : Callees 𝓤 H A at-mem run 𝓣) {κ : Lft} {s : Share} (e : RefT (List ℕ)) (m : Sweep) (u : Val) → Is S.the-row m (u ∷ []) → Sweeping (e .now) m
-      → Opds K W (raw (Advance 𝓤 H A at-mem run .pre (advance-call 𝓤 H A at-mem run κ s e m u)) ∷ ‵ (Entries κ e) ∷ Γ) En xs (table-at e ∷ u ∷ [])
+  pub calls-next : K → (known : Callees 𝓤 H A at-mem run 𝓣) {κ : Lft} {s : Share} (e : RefT (List ℕ)) (m : Sweep) (u : Val) → Is S.the-row m (u ∷ []) → Sweeping (e .now) m
+      → Opds K W (raw (Next 𝓤 H A at-mem run .pre (next-call 𝓤 H A at-mem run κ s e m u)) ∷ ‵ (Entries κ e) ∷ Γ) En xs (table-at e ∷ u ∷ [])
       → ((v : Val) (m′ : Sweep) → Is S.the-row m′ (v ∷ []) → Sweeping (e .now) m′ → rows-from (e .now) m′ ≡ rest (e .now) m → Seq K W (‵ (flft κ s) ∷ ‵ (Entries κ e) ∷ Γ) (lands (𝓣 .C) (𝓣 .Λ) En d v b q))
-      → Seq K W (‵ (flft κ s) ∷ ‵ (Entries κ e) ∷ Γ) (runs (𝓣 .C) (𝓣 .Λ) En (seq (call #sweep·advance xs d) b) q)
-  calls-advance t known {κ} {s} e m u is sw os k =
+      → Seq K W (‵ (flft κ s) ∷ ‵ (Entries κ e) ∷ Γ) (runs (𝓣 .C) (𝓣 .Λ) En (seq (call #scan·next xs d) b) q)
+  calls-next t known {κ} {s} e m u is sw os k =
       move t (1 ∷ []) $ use1 W (‵ (Entries κ e) ⊛ ‵ (Entries κ e)) (entries-twice 𝓤 H A at-mem run W κ e) $ split t $ move t (2 ∷ 0 ∷ []) $
-      use2 W (raw (Advance 𝓤 H A at-mem run .pre (advance-call 𝓤 H A at-mem run κ s e m u))) (advance-asked 𝓤 H A at-mem run W κ s e m u is sw) $
-      calls-at t (fmOf 𝓤 H (W .laws) 𝓣) (Advance 𝓤 H A at-mem run) (known .advance) (advance-call 𝓤 H A at-mem run κ s e m u) os (λ v.
-      told t tt (‵ (flft κ s) ⊛ ‵ ftrue) S.the-row (ensured 𝓤 H A advance.ended (advance.clauses 𝓤 H A at-mem run) (κ, tt) (e, (m, tt)) tt) (λ m′. Sweeping (e .now) m′ × (rows-from (e .now) m′ ≡ rest (e .now) m))
-      (λ m′. exE 𝓤 _ (λ ws. via 𝓤 (sep 𝓤 (fact 𝓤 (Sweeping (e .now) m′)) (fact 𝓤 (rows-from (e .now) m′ ≡ rest (e .now) m))) (snd∗ 𝓤 (sem 𝓤 H A (lasts advance.ended (κ, tt) (e, (m, tt)) ws)) _)
+      use2 W (raw (Next 𝓤 H A at-mem run .pre (next-call 𝓤 H A at-mem run κ s e m u))) (next-asked 𝓤 H A at-mem run W κ s e m u is sw) $
+      calls-at t (fmOf 𝓤 H (W .laws) 𝓣) (Next 𝓤 H A at-mem run) (known .next) (next-call 𝓤 H A at-mem run κ s e m u) os (λ v.
+      told t tt (‵ (flft κ s) ⊛ ‵ ftrue) S.the-row (ensured 𝓤 H A next.ended (next.clauses 𝓤 H A at-mem run) (κ, tt) (e, (m, tt)) tt) (λ m′. Sweeping (e .now) m′ × (rows-from (e .now) m′ ≡ rest (e .now) m))
+      (λ m′. exE 𝓤 _ (λ ws. via 𝓤 (sep 𝓤 (fact 𝓤 (Sweeping (e .now) m′)) (fact 𝓤 (rows-from (e .now) m′ ≡ rest (e .now) m))) (snd∗ 𝓤 (sem 𝓤 H A (lasts next.ended (κ, tt) (e, (m, tt)) ws)) _)
       (via 𝓤 (conj 𝓤 (fact 𝓤 (Sweeping (e .now) m′)) (fact 𝓤 (rows-from (e .now) m′ ≡ rest (e .now) m))) (sep→conj 𝓤 _ _) (both-say 𝓤 H A _ _ (id⊢ 𝓤 _) (id⊢ 𝓤 _))))) v
       (λ m′ is′ h. split t $ move t (1 ∷ []) $ drop t $ k v m′ is′ (h .0) (h .1)))
 

@@ -6,6 +6,7 @@ use sweep::begin;
 use sweep::ended;
 ghost use mathlib.Core.Path.{_≡_};
 ghost use Rattle.dockets.specs.Dockets.{docket-refusal};
+ghost use Rattle.steps.specs.Sweeps.{Sweeping, rest, rows-from};
 ghost use Rattle.scan.specs.Scan.{Opened, row-at, has-row, closed, scan-tables};
 
 // A live docket, its tally and its stamp.
@@ -33,7 +34,7 @@ pub fn scan(entries: &[u32], levels: &[u32], lo: u32, hi: u32, rows: &mut [Row])
     let mut i = 0;
     while goes_on(m, i, rows.len()) {
         rows[i] = row_of(m);
-        m = advance(entries, m);
+        m = next(entries, m);
         i += 1;
     }
     close(m, i, refusal)
@@ -48,6 +49,15 @@ fn open(entries: &[u32], levels: &[u32], lo: u32, hi: u32, refusal: u32) -> Swee
         return begin(entries, levels, lo, hi);
     }
     ended()
+}
+
+// Comes to the next live docket.
+fn next(entries: &[u32], m: Sweep) -> Sweep
+    requires { ⌜ Sweeping (now entries) m ⌝ }
+    ensures { λ r. ⌜ Sweeping (now (entries .entry)) r ⌝ }
+    ensures { λ r. ⌜ rows-from (now (entries .entry)) r ≡ rest (now (entries .entry)) m ⌝ }
+{
+    advance(entries, m)
 }
 
 // Whether there is a live docket and a row for it.

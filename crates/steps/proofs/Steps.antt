@@ -1,136 +1,171 @@
--- What passing the least docket to come, or finding none up to hi, says of a sweep.
-use mathlib.Core.Path.{_≡_, refl, sym, _∙_}
+-- A step of a sweep: what the least record to come says of its docket, and that passing it leaves what is to come of the others.
+use mathlib.Core.Path.{_≡_, refl, sym, ap, _∙_, subst}
 use mathlib.Core.Logic.{_≢_}
-use mathlib.Core.Bool.{cond}
+use mathlib.Core.Bool.{Bool, true, false, cond}
 use mathlib.Core.List.{List}
-use Prim.Native.Nat.{ℕ, zero, suc, _+_, _<_, _≤_, min}
+use Prim.Native.Nat.{ℕ, suc, _+_, _<_, _≤_}
 use native.Mathlib.Omega.{arith}
 use native.Mathlib.Decide.{ℕ-discrete}
-use lib.ListN.{getD}
-use lib.Dec.{eqb}
-use borrow.Author.Tests.{ne-eqb, eqb-false}
-use Rattle.lists.proofs.Bools.{cond-elim}
-use Rattle.model.specs.Lookup.{absent, found, add-row, lookup}
+use borrow.Author.Tests.{eq-eqb, ne-eqb, eqb-true, eqb-false, ltb-true, ltb-false, leb-true, leb-false}
+use lib.Dec.{eqb, ltb, leb}
+use Rattle.lists.proofs.Bools.{by-cases, cond-elim}
+use Rattle.model.specs.Lookup.{absent, reads, add-row, lookup, live}
+use Rattle.tables.specs.Words.{next-of, kind-of, lo-of, stamp-of}
+use Rattle.tables.specs.Placed.{read-point}
 use Rattle.covers.proofs.Chains.{Words}
+use Rattle.level_lookup.proofs.Walks.{points-say, points-here, points-next}
+use Rattle.heads.specs.Heads.{passed, point, left}
+use Rattle.heads.proofs.Packs.{key-on}
+use Rattle.heads.proofs.Passing.{points-least, points-later, slot-key, slot-on, level-inside, passed-fits, passed-later, passed-fewer, point-first, point-passed}
+use Rattle.fences.specs.Fences.{over}
 use Rattle.steps.specs.declared.Sweep.{Sweep}
-use Rattle.cursors.specs.Cursors.{coming, next-lo, least-lo, Ready}
-use Rattle.steps.specs.Sweeps.{heads, told, standing, to-come, Sweeping, Stepped, Tried, rest, rows-from, listed, ahead}
-use Rattle.steps.proofs.Heads.{Alike, told-sweeping}
-use Rattle.steps.proofs.Live.{live-none, live-pass}
-use Rattle.steps.proofs.Coming.{points-before, absent-all}
+use Rattle.steps.specs.Sweeps.{levels-from, range-at, to-come, next-key, next-level, Sweeping, told, moved, gone, neared, rest, listed, Stepped}
+use Rattle.steps.proofs.Branches.{gone-before, gone-covered, gone-delete, gone-found, neared-none, neared-fenced, neared-gone}
+use Rattle.steps.proofs.Live.{live-same, live-none, live-pass}
+use Rattle.steps.proofs.Coming.{points-before, absent-all, says-at, looks-same, decides-same}
 
--- The least key to come is no later than each, and no earlier than what is no later than each.
-module _ (e cursors : List ℕ) where
-  least-below : (n i : ℕ) → i < n → least-lo e cursors n ≤ next-lo e cursors i
-  unfolding least-lo
-  least-below zero i lt = absurd (omega arith)
-  least-below (suc n) i lt = go (ℕ-discrete i n) (least-below n i)
-    where
-      go : Dec (i ≡ n) → (i < n → least-lo e cursors n ≤ next-lo e cursors i)
-          → min (next-lo e cursors n) (least-lo e cursors n) ≤ next-lo e cursors i
-      go (yes q) ih = rw q (omega arith)
-      go (no q) ih = omega (arith, ih (omega arith))
+-- The same to come, whether the sweep is on its way or has come to a docket.
+pub told-sweeping : {e : List ℕ} {m : Sweep} {going alive key value stamp : ℕ} → Sweeping e m → Sweeping e (told m going alive key value stamp)
+told-sweeping s = record { points = s .points; ranges = s .ranges; covers = s .covers; last = s .last }
 
-  least-above : (k : ℕ) → k ≤ 65536 → (n : ℕ) → ((i : ℕ) → i < n → k ≤ next-lo e cursors i) → k ≤ least-lo e cursors n
-  unfolding least-lo
-  least-above k le zero begins = le
-  least-above k le (suc n) begins = omega (arith, begins n (omega arith), least-above k le n (λ i lt. begins i (omega arith)))
+module _ {e : List ℕ} {m : Sweep} (words : Words e) (s : Sweeping e m) where
+  abbrev k : ℕ
+  k = next-key m
 
--- Nothing is to come before a docket that is no later than every key to come.
-pub none-before : (e points ranges : List ℕ) (n k : ℕ) → Words e → Ready e points ranges n → ((i : ℕ) → i < n → k ≤ next-lo e points i)
-    → (j : ℕ) → j < k → lookup (coming e points ranges n) j ≡ absent
-none-before e points ranges n k words ready begins j lt =
-    absent-all e points ranges j n 0
-    (λ i a b. points-before e words (getD points i 0) j (ready .point-order i (omega arith)) (omega (arith, begins i (omega arith))))
+  -- Nothing is to come before the first record's docket.
+  pub nothing-before : (j : ℕ) → j < k → lookup (to-come e m) j ≡ absent
+  nothing-before j lt =
+      absent-all e (point (m .heads)) (m .ranges) j (m .levels) 0
+      (λ i a b.
+      let least = points-least (s .points) i (omega arith) in
+      points-before e words (point (m .heads) i) j (least .0) (omega (arith, least .1)))
 
--- The docket k is the least to come of m, and r has passed it.
-pub record Passing (e : List ℕ) (m r : Sweep) (k : ℕ) : Type 0 where
-  pub sweeping : Sweeping e r
-  pub same-levels : r .levels ≡ m .levels
-  pub same-last : r .hi ≡ m .hi
-  pub least : (i : ℕ) → i < m .levels → k ≤ next-lo e (heads m) i
-  pub begins : (i : ℕ) → i < m .levels → k + 1 ≤ next-lo e (heads r) i
-  pub looks : (j : ℕ) → k + 1 ≤ j → lookup (to-come e r) j ≡ lookup (to-come e m) j
-
-module _ {e : List ℕ} {m : Sweep} {k : ℕ} (words : Words e) (s : Sweeping e m) where
-  -- The least docket to come is past hi.
-  pub stepped-none : ((i : ℕ) → i < m .levels → k ≤ next-lo e (heads m) i) → m .hi < k → Stepped e m (told m 0 0 (m .key) (m .value) (m .stamp))
-  stepped-none least past = record {
+  pub stepped-none : m .hi < k → Stepped e m (told m 0 0 (m .key) (m .value) (m .stamp))
+  stepped-none past = record {
     sweeping = told-sweeping s;
-    leads = live-none (lookup (to-come e m)) k (m .hi) (none-before e (heads m) (m .ranges) (m .levels) k words (s .ready) least) past;
-    fewer = λ g. absurd (omega arith);
+    leads = live-none (lookup (to-come e m)) (m .from) k (m .hi) (λ j a b. nothing-before j b) past;
+    fewer = λ g. absurd (g refl);
   }
 
-  module _ {r : Sweep} (is : k ≡ next-lo e (heads m) (m .level)) (p : Passing e m r k) (le : k ≤ m .hi) where
-    -- The docket's row, and then what is to come of r.
-    rest-passed : rest e m ≡ add-row k (lookup (to-come e m) k) (rest e r)
-    rest-passed =
-        rw (p .same-last)
-        (live-pass (lookup (to-come e m)) k (m .hi)
-        (none-before e (heads m) (m .ranges) (m .levels) k words (s .ready) (p .least))
-        (lookup (to-come e r)) le
-        (none-before e (heads r) (r .ranges) (r .levels) (k + 1) words (p .sweeping .ready) (λ i lt. p .begins i (rw (p .same-levels) at lt)))
-        (p .looks))
+  module _ (le : k ≤ m .hi) where
+    low : k < 65536
+    low = omega (arith, s .last)
 
-    fewer-ahead : ahead e r < ahead e m
-    fewer-ahead =
-        rw (p .same-levels)
-        (omega (
-          arith,
-          s .last,
-          least-below e (heads m) (m .levels) (m .level) (s .inside),
-          least-above e (heads r) (k + 1) (omega (arith, s .last)) (m .levels) (p .begins),
-        ))
+    abbrev slot : ℕ
+    slot = m .heads .slot
 
-    -- It is not live, and the sweep goes on.
-    pub stepped-on : lookup (to-come e m) k ≡ absent → r .going ≡ 1 → Stepped e m r
-    stepped-on q goes = record {
-      sweeping = p .sweeping;
-      leads = rest-passed ∙ rw (q, goes);
-      fewer = λ g. fewer-ahead;
+    key-here : lo-of e slot ≡ k
+    key-here = sym (key-on e slot (slot-on (s .points) low)) ∙ slot-key (s .points)
+
+    -- The docket is absent if a level above has a range over it; else the record tells.
+    says-here : lookup (to-come e m) k ≡ cond (over e (m .ranges) k (next-level m) 0) absent (reads (read-point e slot .entry) (stamp-of e slot))
+    says-here =
+        says-at e (point (m .heads)) (m .ranges) k (next-level m) (read-point e slot .entry) (stamp-of e slot)
+        (rw (point-first (s .points) low) (points-here e slot k (slot-on (s .points) low) key-here))
+        (next-level m) (m .levels) 0 (omega arith) (level-inside (s .points) low)
+        (λ i a b.
+        let inside = level-inside (s .points) low in
+        points-before e words (point (m .heads) i) k (points-least (s .points) i (omega arith) .0) (points-later (s .points) low i (omega arith) b))
+
+    abbrev after : ℕ → Sweep
+    after from = moved m (passed e (m .heads)) from
+
+    -- Of another docket the same is to come.
+    passed-looks : (j : ℕ) → j ≢ k → lookup (to-come e (after 0)) j ≡ lookup (to-come e m) j
+    passed-looks j other =
+        looks-same e (point (m .heads)) (range-at (m .ranges)) (point (passed e (m .heads))) (range-at (m .ranges)) j (m .levels)
+        (λ i lt. decides-same e (point (m .heads) i) (range-at (m .ranges) i) (point (passed e (m .heads)) i) (range-at (m .ranges) i) j (says i) refl)
+      where
+        says : (i : ℕ) → points-say e (point (passed e (m .heads)) i) j ≡ points-say e (point (m .heads) i) j
+        says i =
+            rw (point-passed (s .points) low i)
+            (cond-elim (λ h. points-say e h j ≡ points-say e (point (m .heads) i) j) (eqb (next-level m) i) (next-of e slot) (point (m .heads) i)
+            (λ t. rw (← eqb-true (next-level m) i t, point-first (s .points) low)
+            (sym (points-next e slot j (slot-on (s .points) low) (λ q. other (sym q ∙ key-here)))))
+            (λ t. refl))
+
+    moved-sweeping : (from : ℕ) → Sweeping e (after from)
+    moved-sweeping from = record {
+      points = passed-fits (s .points) low;
+      ranges = s .ranges;
+      covers = λ j n a b c. s .covers j n (omega (arith, passed-later (s .points) low words)) b c;
+      last = s .last;
     }
 
-    -- It is live, and its row is found.
-    pub stepped-found : lookup (to-come e m) k ≡ found (r .value) (r .stamp) → r .key ≡ k → r .going ≡ 0 → r .live ≡ 1 → Stepped e m r
-    stepped-found q found-at stops alive = record {
-      sweeping = p .sweeping;
-      leads = rest-passed ∙ rw (q, stops, alive, found-at);
-      fewer = λ g. absurd (g stops);
+    fewer : left e (passed e (m .heads)) < left e (m .heads)
+    fewer = passed-fewer (s .points) low
+
+    -- A record of its docket was passed before.
+    stepped-before : k < m .from → Stepped e m (after (m .from))
+    stepped-before lt = record {
+      sweeping = moved-sweeping (m .from);
+      leads = live-same (lookup (to-come e m)) (lookup (to-come e (after 0))) (m .from) (m .hi) (λ j a. sym (passed-looks j (λ q. omega arith)));
+      fewer = λ _. fewer;
     }
 
--- A step once other levels go on is a step.
-pub stepped-alike : (e : List ℕ) (m c r : Sweep) → Alike e m c → Stepped e c r → Stepped e m r
-stepped-alike e m c r ch st = record {
-  sweeping = st .sweeping;
-  leads = rw (← ch .same-heads, ← ch .same-ranges, ← ch .same-levels, ← ch .same-last) (st .leads);
-  fewer = λ g. rw (← ch .same-heads, ← ch .same-levels) (st .fewer g);
-}
+    module _ (from : m .from ≤ k) where
+      -- The docket's row, if it is live, and then those past it.
+      rest-passed : rest e m ≡ add-row k (lookup (to-come e m) k) (rest e (after (k + 1)))
+      rest-passed =
+          live-pass (lookup (to-come e m)) (m .from) k (m .hi) (λ j a b. nothing-before j b) from le
+          ∙ ap (add-row k (lookup (to-come e m) k))
+          (live-same (lookup (to-come e m)) (lookup (to-come e (after 0))) (k + 1) (m .hi) (λ j a. sym (passed-looks j (λ q. omega arith))))
 
--- How the sweep stood does not matter to a step, which has also been tried, as where neither level could go on.
-module _ {e : List ℕ} (m : Sweep) where
-  pub stood-stepped : {r : Sweep} {going : ℕ} → Stepped e (standing m going) r → Stepped e m r
-  stood-stepped st = record { sweeping = st .sweeping; leads = st .leads; fewer = st .fewer }
+      stepped-on : lookup (to-come e m) k ≡ absent → Stepped e m (after (k + 1))
+      stepped-on q = record { sweeping = moved-sweeping (k + 1); leads = rest-passed ∙ rw q; fewer = λ _. fewer }
 
-  pub stood-tried : {r : Sweep} {going : ℕ} → Stepped e (standing m going) r → Tried e m r
-  stood-tried st = record { sweeping = st .sweeping; leads = st .leads; fewer = λ g _. st .fewer g }
+    -- However its docket stands, passing the first record is a step.
+    pub gone-stepped : (covered : Bool) → covered ≡ over e (m .ranges) k (next-level m) 0 → Stepped e m (gone e m covered)
+    gone-stepped covered is = by-cases (ltb k (m .from))
+        (λ t.
+        let lt = ltb-true k (m .from) t in
+        subst (Stepped e m) (sym (gone-before e m covered lt)) (stepped-before lt))
+        (λ t.
+        let from = ltb-false k (m .from) t in
+        by-cases covered
+        (λ c. subst (Stepped e m) (sym (gone-covered e m covered from c)) (stepped-on from (says-here ∙ rw (← is, c))))
+        (λ c. by-cases (eqb (kind-of e slot) 1)
+        (λ u. subst (Stepped e m) (sym (gone-found e m covered from c (eqb-true (kind-of e slot) 1 u)))
+        (record {
+          sweeping = told-sweeping (moved-sweeping (k + 1));
+          leads = rest-passed from ∙ rw (says-here, ← is, c, u);
+          fewer = λ g. absurd (g refl);
+        }))
+        (λ u. subst (Stepped e m) (sym (gone-delete e m covered from c (eqb-false (kind-of e slot) 1 u))) (stepped-on from (says-here ∙ rw (← is, c, u))))))
 
-  pub blocked-tried : Sweeping e m → Tried e m (standing m 2)
-  blocked-tried s = record { sweeping = told-sweeping s; leads = refl; fewer = λ _ free. absurd (free refl) }
+    -- Before the fence the cover tells.
+    near-gone : k < m .fence → Stepped e m (gone e m (ltb (m .cover) (next-level m)))
+    near-gone lt =
+        let inside = level-inside (s .points) low in
+        gone-stepped (ltb (m .cover) (next-level m)) (sym (s .covers k (next-level m) (omega arith) lt (omega arith)))
 
--- What was tried is a step, has come to what was still to come, or has left all of it to the search.
-module _ {e : List ℕ} {m r : Sweep} (t : Tried e m r) where
-  pub tried-stepped : r .going ≢ 2 → Stepped e m r
-  tried-stepped free = record { sweeping = t .sweeping; leads = t .leads; fewer = λ g. t .fewer g free }
+  -- A step before the fence; at the fence the sweep is still where it was.
+  pub near-stepped : k < m .fence → Stepped e m (neared e m)
+  near-stepped lt = by-cases (ltb (m .hi) k)
+      (λ t.
+      let past = ltb-true (m .hi) k t in
+      subst (Stepped e m) (sym (neared-none e m past)) (stepped-none past))
+      (λ t.
+      let le = ltb-false (m .hi) k t in
+      subst (Stepped e m) (sym (neared-gone e m le lt)) (near-gone le lt))
 
-  pub tried-arrived : r .going ≡ 0 → rows-from e r ≡ rest e m
-  tried-arrived stops = sym (rw stops at (t .leads))
+  abbrev Leads : Sweep → Type 0
+  Leads r = Sweeping e r × (rest e m ≡ listed e r)
 
-  pub tried-on : r .going ≢ 0 → (s : Sweep) → rows-from e s ≡ rest e r → rows-from e s ≡ rest e m
-  tried-on goes s q = q ∙ sym (rw (ne-eqb (r .going) 0 goes) at (t .leads))
+  pub near-leads : Leads (neared e m)
+  near-leads = by-cases (leb (m .fence) k)
+      (λ t. by-cases (ltb (m .hi) k)
+      (λ u.
+      let past = ltb-true (m .hi) k u in
+      subst Leads (sym (neared-none e m past)) (told-sweeping s, stepped-none past .leads))
+      (λ u. subst Leads (sym (neared-fenced e m (ltb-false (m .hi) k u) (leb-true (m .fence) k t))) (told-sweeping s, refl)))
+      (λ t.
+      let st = near-stepped (leb-false (m .fence) k t) in
+      (st .sweeping, st .leads))
 
 -- How many more steps there may be.
 abbrev pub steps-left : List ℕ → Sweep → ℕ
-steps-left e m = cond (eqb (m .going) 0) 0 (suc (ahead e m))
+steps-left e m = cond (eqb (m .going) 0) 0 (suc (left e (m .heads)))
 
 module _ {e : List ℕ} {m r : Sweep} (st : Stepped e m r) (goes : m .going ≢ 0) where
   pub listed-same : listed e r ≡ listed e m
@@ -139,4 +174,5 @@ module _ {e : List ℕ} {m r : Sweep} (st : Stepped e m r) (goes : m .going ≢ 
   pub fewer-steps : steps-left e r < steps-left e m
   fewer-steps =
       rw (ne-eqb (m .going) 0 goes)
-      (cond-elim (λ n. n < suc (ahead e m)) (eqb (r .going) 0) 0 (suc (ahead e r)) (λ g. omega arith) (λ g. omega (arith, st .fewer (eqb-false (r .going) 0 g))))
+      (cond-elim (λ n. n < suc (left e (m .heads))) (eqb (r .going) 0) 0 (suc (left e (r .heads)))
+      (λ g. omega arith) (λ g. omega (arith, st .fewer (eqb-false (r .going) 0 g))))

@@ -1,62 +1,79 @@
--- A sweep over the levels: what it still has to come, and the rows of the live dockets among it.
+-- A sweep over the levels: what it still has to come, the rows of the live dockets among it, and a step.
 use mathlib.Core.Path.{_≡_}
 use mathlib.Core.Logic.{_≢_}
-use mathlib.Core.Bool.{Bool, cond}
+use mathlib.Core.Bool.{Bool, cond, _||_, not}
 use mathlib.Core.List.{List, [], _∷_}
-use Prim.Native.Nat.{ℕ, _-_, _<_, _≤_}
-use lib.Dec.{eqb}
-use lib.ListN.{set}
+use Prim.Native.Nat.{ℕ, zero, suc, _+_, _<_, _≤_}
+use lib.Dec.{eqb, leb, ltb}
+use lib.ListN.{getD}
 use Rattle.model.specs.Lookup.{Row, lookup, live}
 use Rattle.model.specs.Records.{Level}
-use Rattle.cursors.specs.Cursors.{coming, next-lo, least-lo, Ready}
+use Rattle.tables.specs.Words.{kind-of, tally-of, stamp-of}
+use Rattle.level_lookup.specs.Answers.{chain-level}
+use Rattle.heads.specs.declared.Heads.{Heads}
+use Rattle.heads.specs.Heads.{key-of, level-of, passed, point, left, Fits}
+use Rattle.fences.specs.Fences.{Ready, over}
 use Rattle.steps.specs.declared.Sweep.{Sweep}
 
--- The first point that each level still has to come; that of the level which goes on alone is the slot, and the second's waits.
-abbrev pub heads : Sweep → List ℕ
-heads m = set (set (m .points) (m .second) (m .waiting)) (m .level) (m .slot)
+-- What n levels from level i on have to come, where p and r tell the first point and the first range of each.
+unfoldable pub levels-from : List ℕ → (ℕ → ℕ) → (ℕ → ℕ) → ℕ → ℕ → List (Level ℕ ℕ)
+levels-from e p r zero i = []
+levels-from e p r (suc n) i = chain-level e (p i) (r i) ∷ levels-from e p r n (suc i)
+
+-- The first range that level i of a list of slots still has to come.
+abbrev pub range-at : List ℕ → ℕ → ℕ
+range-at ranges i = getD ranges i 0
 
 -- What the levels still have to come.
 abbrev pub to-come : List ℕ → Sweep → List (Level ℕ ℕ)
-to-come e m = coming e (heads m) (m .ranges) (m .levels)
+to-come e m = levels-from e (point (m .heads)) (range-at (m .ranges)) (m .levels) 0
 
--- The cursors can be followed; before the bound the second level has no point, and before its reach no other level a point, and no level above either of the two a
--- range.
+-- The docket of the first record to come, and its level.
+abbrev pub next-key : Sweep → ℕ
+next-key m = key-of (m .heads .first)
+
+abbrev pub next-level : Sweep → ℕ
+next-level m = level-of (m .heads .first)
+
+-- The heads are those of the levels, the chains of ranges can be followed, and before the fence the levels above another have a range over a docket to come exactly
+-- where the cover is above it.
 pub record Sweeping (e : List ℕ) (m : Sweep) : Type 0 where
-  pub ready : Ready e (heads m) (m .ranges) (m .levels)
-  pub inside : m .level < m .levels
-  pub second-inside : m .second < m .levels
-  pub apart : m .second ≢ m .level
-  pub within : m .bound ≤ m .reach
-  pub before-second : m .bound ≤ next-lo e (heads m) (m .second)
-  pub others : (i : ℕ) → i < m .levels → i ≢ m .level → i ≢ m .second → m .reach ≤ next-lo e (heads m) i
-  pub above-level : (i : ℕ) → i < m .level → m .reach ≤ next-lo e (m .ranges) i
-  pub above-second : (i : ℕ) → i < m .second → m .reach ≤ next-lo e (m .ranges) i
+  pub points : Fits e (m .levels) (m .heads)
+  pub ranges : Ready e (m .ranges) (m .levels)
+  pub covers : (j n : ℕ) → next-key m ≤ j → j < m .fence → n ≤ m .levels → over e (m .ranges) j n 0 ≡ ltb (m .cover) n
   pub last : m .hi ≤ 65535
 
--- The level goes on from another slot.
-abbrev pub moved : Sweep → ℕ → Sweep
-moved m slot = record { points = m .points; ranges = m .ranges; levels = m .levels; level = m .level; slot = slot; bound = m .bound; second = m .second; waiting = m .waiting; reach = m .reach; hi = m .hi; going = m .going; live = m .live; key = m .key; value = m .value; stamp = m .stamp }
-
--- The second level goes on, alone before a bound, and the other waits.
-abbrev pub swapped : Sweep → ℕ → Sweep
-swapped m bound = record { points = m .points; ranges = m .ranges; levels = m .levels; level = m .second; slot = m .waiting; bound = bound; second = m .level; waiting = m .slot; reach = m .reach; hi = m .hi; going = m .going; live = m .live; key = m .key; value = m .value; stamp = m .stamp }
-
--- The same cursors; the sweep is on its way, or has come to a live docket or to none.
+-- The same to come; the sweep is on its way, or has come to a live docket or to none.
 abbrev pub told : Sweep → ℕ → ℕ → ℕ → ℕ → ℕ → Sweep
-told m going alive key value stamp = record { points = m .points; ranges = m .ranges; levels = m .levels; level = m .level; slot = m .slot; bound = m .bound; second = m .second; waiting = m .waiting; reach = m .reach; hi = m .hi; going = going; live = alive; key = key; value = value; stamp = stamp }
+told m going alive key value stamp = record { heads = m .heads; ranges = m .ranges; levels = m .levels; cover = m .cover; fence = m .fence; from = m .from; hi = m .hi; going = going; live = alive; key = key; value = value; stamp = stamp }
 
 -- The same sweep, but for how it stands.
 abbrev pub standing : Sweep → ℕ → Sweep
 standing m going = told m going (m .live) (m .key) (m .value) (m .stamp)
 
--- The slot's key is the least to come, and the slot stands in its place among the cursors.
-pub record Foremost (e : List ℕ) (m : Sweep) : Type 0 where
-  pub settled : m .points ≡ heads m
-  pub least : (i : ℕ) → i < m .levels → next-lo e (heads m) (m .level) ≤ next-lo e (heads m) i
+-- On its way with other heads, from another docket on.
+abbrev pub moved : Sweep → Heads → ℕ → Sweep
+moved m heads from = record { heads = heads; ranges = m .ranges; levels = m .levels; cover = m .cover; fence = m .fence; from = from; hi = m .hi; going = 1; live = m .live; key = m .key; value = m .value; stamp = m .stamp }
+
+-- The first record is passed: one of its docket was passed before, or its docket is not live, or is.
+abbrev pub gone : List ℕ → Sweep → Bool → Sweep
+gone e m covered =
+    let k = next-key m in
+    let s = m .heads .slot in
+    let heads = passed e (m .heads) in
+    let r = moved m heads (k + 1) in
+    cond (ltb k (m .from)) (moved m heads (m .from))
+    (cond (covered || not (eqb (kind-of e s) 1)) r (told r 0 1 k (tally-of e s) (stamp-of e s)))
+
+-- Nothing is left up to hi, or the fence is reached, or the first record is passed.
+abbrev pub neared : List ℕ → Sweep → Sweep
+neared e m =
+    cond (ltb (m .hi) (next-key m)) (told m 0 0 (m .key) (m .value) (m .stamp))
+    (cond (leb (m .fence) (next-key m)) (standing m 1) (gone e m (ltb (m .cover) (next-level m))))
 
 -- The rows of the live dockets that are still to come, up to hi.
 abbrev pub rest : List ℕ → Sweep → List (Row ℕ)
-rest e m = live (lookup (to-come e m)) 0 (m .hi)
+rest e m = live (lookup (to-come e m)) (m .from) (m .hi)
 
 -- The live docket that the sweep has come to.
 abbrev pub row-found : Sweep → Row ℕ
@@ -73,18 +90,8 @@ rows-from e m = cond (is-live m) (row-found m ∷ rest e m) []
 abbrev pub listed : List ℕ → Sweep → List (Row ℕ)
 listed e m = cond (eqb (m .going) 0) (rows-from e m) (rest e m)
 
--- How many dockets there are from the least to come on.
-abbrev pub ahead : List ℕ → Sweep → ℕ
-ahead e m = 65536 - least-lo e (heads m) (m .levels)
-
--- A step passes a docket, the least to come, or finds that none is left up to hi.
+-- A step passes a record, or finds that nothing is left up to hi.
 pub record Stepped (e : List ℕ) (m r : Sweep) : Type 0 where
   pub sweeping : Sweeping e r
   pub leads : rest e m ≡ listed e r
-  pub fewer : r .going ≢ 0 → ahead e r < ahead e m
-
--- The same where one of the two levels can go on; that neither can is said by 2.
-pub record Tried (e : List ℕ) (m r : Sweep) : Type 0 where
-  pub sweeping : Sweeping e r
-  pub leads : rest e m ≡ listed e r
-  pub fewer : r .going ≢ 0 → r .going ≢ 2 → ahead e r < ahead e m
+  pub fewer : r .going ≢ 0 → left e (r .heads) < left e (m .heads)

@@ -1,3 +1,4 @@
--- Laws of a sweep that begins, and of its steps by all levels.
-pub mod TogetherSteps
-pub mod Begins
+-- Laws of sweeps.
+pub mod Crossing
+pub mod Arriving
+pub mod Opening

@@ -1,77 +1,56 @@
-// The live dockets of sound tables in ascending order, one after the other. Each record is passed once: mostly by a step of the two
-// levels that lead, and only where another level may have a say are all levels asked.
-use cursors::look;
-use cursors::move_to;
-use cursors::open;
-use leads::key_at;
-use leads::leaders;
-use level_lookup::Decided;
+// The live dockets of sound tables in ascending order, one after the other. Each record is passed once: the heads of all levels ascend,
+// and the least is next.
+use covers::seek;
+use fences::survey;
+use heads::Heads;
+use heads::head;
+use heads::key_of;
+use heads::level_of;
+use heads::nothing;
+use heads::push;
 use steps::ARRIVED;
-use steps::BLOCKED;
 use steps::SEARCHING;
 use steps::Sweep;
-use steps::go_alone;
+use steps::go;
 use steps::near;
 use steps::none;
 use steps::stand;
 ghost use mathlib.Core.Path.{_≡_};
-ghost use Prim.Native.Nat.{_<_, _≤_};
-ghost use Rattle.model.specs.Lookup.{lookup, live};
-ghost use Rattle.tables.specs.Placed.{read-state};
+ghost use Prim.Native.Nat.{_≤_};
 ghost use Rattle.level_lookup.specs.Readable.{Readable};
-ghost use Rattle.cursors.specs.Cursors.{next-lo};
-ghost use Rattle.steps.specs.Sweeps.{heads, told, Sweeping, Foremost, Stepped, rest, rows-from};
-ghost use Rattle.sweep.specs.Sweeps.{regrouped, over};
+ghost use Rattle.steps.specs.Sweeps.{Sweeping};
+ghost use Rattle.sweep.specs.Sweeps.{opened, over, crossed, step-of, searched, advanced};
 
 // Comes to the first live docket from lo to hi.
 pub fn begin(e: &[u32], l: &[u32], lo: u32, hi: u32) -> Sweep
     requires { ⌜ Readable (now e) (now l) ⌝ }
-    requires { ⌜ lo ≤ hi ⌝ }
     requires { ⌜ hi ≤ 65535 ⌝ }
-    ensures { λ r. ⌜ Sweeping (now (e .entry)) r ⌝ }
-    ensures { λ r. ⌜ rows-from (now (e .entry)) r ≡ live (lookup (read-state (now (e .entry)) (now (l .entry)) .levels)) lo hi ⌝ }
+    ensures { λ r. ⌜ r ≡ searched (now (e .entry)) (opened (now (e .entry)) (now (l .entry)) lo hi) ⌝ }
 {
-    let mut points = [0usize; 7];
-    let mut ranges = [0usize; 7];
-    let levels = l[0] as usize + 1;
-    open(l, &mut points, &mut ranges);
-    move_to(e, &mut points, &mut ranges, levels, lo);
-    let slot = points[0];
-    let waiting = points[1];
-    let m = Sweep {
-        points: points,
-        ranges: ranges,
-        levels: levels,
-        level: 0,
-        slot: slot,
-        bound: 0,
-        second: 1,
-        waiting: waiting,
-        reach: 0,
-        hi: hi,
-        going: SEARCHING,
-        live: 0,
-        key: 0,
-        value: 0,
-        stamp: 0,
-    };
-    search(e, m)
+    search(e, open(e, l, lo, hi))
 }
 
 // A sweep that has come to its end.
 pub fn ended() -> Sweep
     ensures { λ r. ⌜ r ≡ over ⌝ }
 {
+    let heads = Heads {
+        slot: 0,
+        first: 0,
+        h1: 0,
+        h2: 0,
+        h3: 0,
+        h4: 0,
+        h5: 0,
+        h6: 0,
+    };
     Sweep {
-        points: [0; 7],
+        heads: heads,
         ranges: [0; 7],
         levels: 0,
-        level: 0,
-        slot: 0,
-        bound: 0,
-        second: 1,
-        waiting: 0,
-        reach: 0,
+        cover: 0,
+        fence: 0,
+        from: 0,
         hi: 0,
         going: ARRIVED,
         live: 0,
@@ -81,11 +60,10 @@ pub fn ended() -> Sweep
     }
 }
 
-// Comes to the next live docket.
+// Comes to the next live docket: mostly by one step, which is compiled into the caller's loop.
 pub fn advance(e: &[u32], m: Sweep) -> Sweep
     requires { ⌜ Sweeping (now e) m ⌝ }
-    ensures { λ r. ⌜ Sweeping (now (e .entry)) r ⌝ }
-    ensures { λ r. ⌜ rows-from (now (e .entry)) r ≡ rest (now (e .entry)) m ⌝ }
+    ensures { λ r. ⌜ r ≡ advanced (now (e .entry)) m ⌝ }
 {
     let r = near(e, m);
     if r.going == ARRIVED {
@@ -95,11 +73,40 @@ pub fn advance(e: &[u32], m: Sweep) -> Sweep
     stand(search(e, stand(r, SEARCHING)), ARRIVED)
 }
 
-// Goes on, docket by docket, to the next live one.
+// Sets out from the first point of each level that is not before lo.
+fn open(e: &[u32], l: &[u32], lo: u32, hi: u32) -> Sweep
+    requires { ⌜ Readable (now e) (now l) ⌝ }
+    ensures { λ r. ⌜ r ≡ opened (now (e .entry)) (now (l .entry)) lo hi ⌝ }
+{
+    let levels = l[0] as usize + 1;
+    let mut heads = nothing();
+    let mut ranges = [0usize; 7];
+    let mut i = 0;
+    while i < levels {
+        heads = push(heads, head(e, i, seek(e, l[4 * (i + 1)] as usize, lo)));
+        ranges[i] = l[4 * (i + 1) + 1] as usize;
+        i += 1;
+    }
+    Sweep {
+        heads: heads,
+        ranges: ranges,
+        levels: levels,
+        cover: 0,
+        fence: 0,
+        from: lo,
+        hi: hi,
+        going: SEARCHING,
+        live: 0,
+        key: 0,
+        value: 0,
+        stamp: 0,
+    }
+}
+
+// Goes on, record by record, to the next live docket.
 fn search(e: &[u32], m: Sweep) -> Sweep
     requires { ⌜ Sweeping (now e) m ⌝ }
-    ensures { λ r. ⌜ Sweeping (now (e .entry)) r ⌝ }
-    ensures { λ r. ⌜ rows-from (now (e .entry)) r ≡ rest (now (e .entry)) m ⌝ }
+    ensures { λ r. ⌜ r ≡ searched (now (e .entry)) m ⌝ }
 {
     let mut r = m;
     r.going = SEARCHING;
@@ -109,98 +116,31 @@ fn search(e: &[u32], m: Sweep) -> Sweep
     r
 }
 
-// One docket: by one of the two levels, or by another.
+// One record, wherever its docket lies.
 fn step(e: &[u32], m: Sweep) -> Sweep
     requires { ⌜ Sweeping (now e) m ⌝ }
-    ensures { λ r. ⌜ Stepped (now (e .entry)) m r ⌝ }
+    ensures { λ r. ⌜ r ≡ step-of (now (e .entry)) m ⌝ }
 {
-    let r = near(e, m);
-    if r.going == BLOCKED {
-        return change_level(e, stand(m, SEARCHING));
+    if m.fence <= key_of(m.heads.first) {
+        return cross(e, m);
     }
-    r
+    near(e, m)
 }
 
-// One docket by a level that has the least key to come: alone, if it can, or with all the others.
-fn change_level(e: &[u32], m: Sweep) -> Sweep
+// One record whose docket lies past the fence: the ranges are surveyed first.
+fn cross(e: &[u32], m: Sweep) -> Sweep
     requires { ⌜ Sweeping (now e) m ⌝ }
-    requires { ⌜ m .going ≡ 1 ⌝ }
-    ensures { λ r. ⌜ Stepped (now (e .entry)) m r ⌝ }
+    ensures { λ r. ⌜ r ≡ crossed (now (e .entry)) m ⌝ }
 {
-    let mut points = m.points;
-    let ranges = m.ranges;
-    let second = m.second;
-    points[second] = m.waiting;
-    let first = m.level;
-    points[first] = m.slot;
-    let a = leaders(e, &points, &ranges, m.levels);
-    let level = a.level;
-    let other = a.second;
-    let mut c = m;
-    c.points = points;
-    c.level = level;
-    c.slot = points[level];
-    c.bound = a.bound;
-    c.second = other;
-    c.waiting = points[other];
-    c.reach = a.reach;
-    let key = key_at(e, c.slot);
-    if key < c.bound {
-        return go_alone(e, c, key);
-    }
-    go_together(e, c, key)
-}
-
-// The least docket to come, asked of all levels.
-fn go_together(e: &[u32], m: Sweep, key: u32) -> Sweep
-    requires { ⌜ Sweeping (now e) m ⌝ }
-    requires { ⌜ m .going ≡ 1 ⌝ }
-    requires { ⌜ key ≡ next-lo (now e) (heads m) (m .level) ⌝ }
-    requires { ⌜ Foremost (now e) m ⌝ }
-    ensures { λ r. ⌜ Stepped (now (e .entry)) m r ⌝ }
-{
+    let key = key_of(m.heads.first);
     if m.hi < key {
         return none(m);
     }
-    let mut points = m.points;
     let mut ranges = m.ranges;
-    let decided = look(e, &points, &ranges, m.levels, key);
-    move_to(e, &mut points, &mut ranges, m.levels, key + 1);
-    let r = regroup(m, points, ranges);
-    match decided {
-        Decided::Value(value, stamp) => found(r, key, value, stamp),
-        Decided::Absent => r,
-        Decided::Deeper => r,
-    }
-}
-
-// Other cursors; no level is alone.
-fn regroup(m: Sweep, points: [usize; 7], ranges: [usize; 7]) -> Sweep
-    requires { ⌜ m .level < 7 ⌝ }
-    requires { ⌜ m .second < 7 ⌝ }
-    ensures { λ r. ⌜ r ≡ regrouped m points ranges ⌝ }
-{
-    let level = m.level;
-    let second = m.second;
+    let cover = survey(e, &mut ranges, m.levels, key);
     let mut r = m;
-    r.points = points;
     r.ranges = ranges;
-    r.slot = points[level];
-    r.bound = 0;
-    r.waiting = points[second];
-    r.reach = 0;
-    r
-}
-
-// The sweep has come to a live docket.
-fn found(m: Sweep, key: u32, value: u32, stamp: u32) -> Sweep
-    ensures { λ r. ⌜ r ≡ told m 0 1 key value stamp ⌝ }
-{
-    let mut r = m;
-    r.going = ARRIVED;
-    r.live = 1;
-    r.key = key;
-    r.value = value;
-    r.stamp = stamp;
-    r
+    r.cover = cover.level;
+    r.fence = cover.fence;
+    go(e, r, cover.level < level_of(m.heads.first))
 }

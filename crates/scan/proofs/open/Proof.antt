@@ -2,7 +2,10 @@
 use mathlib.Core.Path.{sym, ap, _∙_}
 use borrow.Author.Needs.{needs}
 use Rattle.steps.specs.Sweeps.{is-live}
-use Rattle.dockets.proofs.Refusals.{allowed-order, allowed-high}
+use Rattle.covers.proofs.Chains.{Words}
+use Rattle.dockets.proofs.Refusals.{allowed-high}
+use Rattle.sweep.proofs.Arriving.{searched-sweeping, searched-rows}
+use Rattle.sweep.proofs.Opening.{opened-sweeping, opened-rest}
 use Rattle.scan.proofs.Refusals.{allowed-readable, opened, unopened}
 use Rattle.scan.proofs.open.Statement.{statement}
 use Rattle.scan.proofs.open.Tie as tie
@@ -11,10 +14,17 @@ begin-requires : tie.Need-begin-requires
 begin-requires c κs =
     let d = c .before .before .before in
     let none = sym (d .pre) ∙ c .if1 .taken in
-    (allowed-readable _ _ (d .args .lo) (d .args .hi) none, (allowed-order _ _ (d .args .lo) (d .args .hi) none, allowed-high _ _ (d .args .lo) (d .args .hi) none))
+    (allowed-readable _ _ (d .args .lo) (d .args .hi) none, allowed-high _ _ (d .args .lo) (d .args .hi) none)
 
 returns : tie.Need-returns
-returns c = opened _ _ _ _ _ (c .before .before .before .before .pre) _ (c .before .if1 .taken) (c .begin .ensures .0) (c .begin .ensures .1)
+returns c =
+    let d = c .before .before .before .before in
+    let words : Words (d .args .entries .now) = λ i. c .before .before .before .shared-slice-known .given i .fits in
+    let none = sym (d .pre) ∙ c .before .if1 .taken in
+    let read = allowed-readable _ _ (d .args .lo) (d .args .hi) none in
+    let on = opened-sweeping read (d .args .lo) (d .args .hi) (allowed-high _ _ (d .args .lo) (d .args .hi) none) in
+    opened _ _ _ _ _ (d .pre) _ (c .before .if1 .taken) (rw (c .begin .ensures) (searched-sweeping (d .args .entries .now) words on))
+    (rw (c .begin .ensures) (searched-rows (d .args .entries .now) words on ∙ opened-rest read (d .args .lo) (d .args .hi)))
 
 ended-requires : tie.Need-ended-requires
 ended-requires c κs = search needs

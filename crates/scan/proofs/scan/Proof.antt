@@ -50,7 +50,7 @@ use Rattle.dockets.specs.Dockets.{docket-refusal}
 use Rattle.scan.specs.Scan.{Outcome, written, has-row}
 use Rattle.scan.proofs.Filling.{so-far}
 use Rattle.scan.proofs.Reached.{live-rows, Reached, begun, kept-length, has-room, goes-sweeping, stored, turned, ended}
-use Rattle.scan.proofs.Calls.{table-at, Entries, Tokens, Both, DocketRefusal, Open, GoesOn, RowOf, Advance, Close, Callees, calls-docket-refusal, calls-open, calls-goes-on, calls-row-of, calls-advance, calls-close}
+use Rattle.scan.proofs.Calls.{table-at, Entries, Tokens, Both, DocketRefusal, Open, GoesOn, RowOf, Next, Close, Callees, calls-docket-refusal, calls-open, calls-goes-on, calls-row-of, calls-next, calls-close}
 use Rattle.scan.proofs.Ends as ends
 use Rattle.scan.proofs.Ends.{stayed}
 use Rattle.scan.proofs.Entry.{after, word, number, slice₁, slice₂, slice₅, Locals, Dies, Stored, enters, leaves}
@@ -72,9 +72,9 @@ use Rattle.scan.proofs.goes_on.Met as goes-on-thm
 use Rattle.scan.proofs.row_of.Symbol as row-of-def
 use Rattle.scan.proofs.row_of.Symbol.{name as #scan·row-of}
 use Rattle.scan.proofs.row_of.Met as row-of-thm
-use Rattle.sweep.proofs.advance.Symbol as advance-def
-use Rattle.sweep.proofs.advance.Symbol.{name as #sweep·advance}
-use Rattle.sweep.proofs.advance.Met as advance-thm
+use Rattle.scan.proofs.next.Symbol as next-def
+use Rattle.scan.proofs.next.Symbol.{name as #scan·next}
+use Rattle.scan.proofs.next.Met as next-thm
 use Rattle.scan.proofs.close.Symbol as close-def
 use Rattle.scan.proofs.close.Symbol.{name as #scan·close}
 use Rattle.scan.proofs.close.Met as close-thm
@@ -170,7 +170,7 @@ module _ {M : Type 1} (𝓤 : URA M) (H : Heap 𝓤) (A : Atoms 𝓤) (W : Given
             elem-put ! T.the-row fullShare (to i) i p (v₁ ∷ []) b o within $
             rewrite ! 0 (λ (z : List Row). ‵ (row T.the-row fullShare z b o)) (ap (λ (z : Row). set (to i) i z) p-is ∙ stored (e .now) (l .now) lo hi ys i m h goes) refl $
             move ! (1 ∷ 2 ∷ []) $
-            calls-advance ! known e m u is (goes-sweeping (e .now) (l .now) lo hi ys i m h goes)
+            calls-next ! known e m u is (goes-sweeping (e .now) (l .now) lo hi ys i m h goes)
             (and-then ! (load ! (from ! (stop !)) (look ! 9 refl)) (and-then ! (load ! (from ! (stop !)) (look ! 3 refl)) (no-more !))) (λ v₂ m′ is′ sweeps rows.
             land ! (from ! (stop !)) (store ! 3 refl (LL.lawful S.the-type S′.the-laws 𝓤 H A W .typed m′ _ is′ .0)) $
             assigns-last ! (bin ! (load ! (from ! (stop !)) (look ! 4 refl)) (lit ! tt) (record { fits = next })) (from ! (stop !)) (store ! 4 refl (tt, record { fits = next })) $
@@ -292,6 +292,6 @@ scan-spec 𝓤 H 𝓜 𝓖 𝓡 =
       open-first = cited 𝓤 H (Open 𝓤 H (𝓖 .A) (𝓜 .mem) (𝓡 .run)) 𝓜 𝓡 code.env #scan·open open-def.routine code.calls-scan·open (open-thm.met 𝓤 H 𝓜 𝓖 𝓡);
       goes-on = cited 𝓤 H (GoesOn 𝓤 H (𝓖 .A) (𝓜 .mem) (𝓡 .run)) 𝓜 𝓡 code.env #scan·goes-on goes-on-def.routine code.calls-scan·goes-on (goes-on-thm.met 𝓤 H 𝓜 𝓖 𝓡);
       row-of = cited 𝓤 H (RowOf 𝓤 H (𝓖 .A) (𝓜 .mem) (𝓡 .run)) 𝓜 𝓡 code.env #scan·row-of row-of-def.routine code.calls-scan·row-of (row-of-thm.met 𝓤 H 𝓜 𝓖 𝓡);
-      advance = cited 𝓤 H (Advance 𝓤 H (𝓖 .A) (𝓜 .mem) (𝓡 .run)) 𝓜 𝓡 code.env #sweep·advance advance-def.routine code.calls-sweep·advance (advance-thm.met 𝓤 H 𝓜 𝓖 𝓡);
+      next = cited 𝓤 H (Next 𝓤 H (𝓖 .A) (𝓜 .mem) (𝓡 .run)) 𝓜 𝓡 code.env #scan·next next-def.routine code.calls-scan·next (next-thm.met 𝓤 H 𝓜 𝓖 𝓡);
       close = cited 𝓤 H (Close 𝓤 H (𝓖 .A) (𝓜 .mem) (𝓡 .run)) 𝓜 𝓡 code.env #scan·close close-def.routine code.calls-scan·close (close-thm.met 𝓤 H 𝓜 𝓖 𝓡);
     }))

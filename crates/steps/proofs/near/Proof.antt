@@ -1,60 +1,59 @@
--- `steps::near` meets its contract: a step by the level that was alone or by the second, or none.
-use mathlib.Core.Path.{refl, _∙_}
+-- `steps::near` meets its contract: each way out is a branch of the definition.
+use mathlib.Core.Path.{refl, sym, _∙_}
+use native.Mathlib.Omega.{arith}
 use borrow.Author.Needs.{needs}
-use Rattle.steps.proofs.Heads.{told-sweeping, slot-ordered, slot-key, waiting-ordered, swaps}
-use Rattle.steps.proofs.Steps.{stepped-alike, stood-tried, blocked-tried}
+use Rattle.steps.proofs.Branches.{neared-none, neared-fenced, neared-gone}
 use Rattle.steps.proofs.near.Statement.{statement}
 use Rattle.steps.proofs.near.Tie as tie
 
-key-at-requires : tie.Need-key-at-requires
-key-at-requires c κs = slot-ordered _ _ (c .before .pre)
+key-of-requires : tie.Need-key-of-requires
+key-of-requires c κs = search needs
 
-go-alone-requires : tie.Need-go-alone-requires
-go-alone-requires c κs =
-    let a = c .before .before in
-    let p = a .before .before .pre in
-    (told-sweeping p, (refl, (a .key-at .ensures ∙ slot-key _ _ p, c .if1 .taken)))
+none-requires : tie.Need-none-requires
+none-requires c κs = search needs
 
 returns : tie.Need-returns
-returns c = stood-tried _ (c .go-alone .ensures)
+returns c =
+    let k = c .before .before .before in
+    let a = k .before .before .args in
+    rw (c .none .ensures) (sym (neared-none (a .e .now) (a .m) (rw (k .key-of .ensures) at (c .before .if1 .taken))))
 
-key-at-requires-2 : tie.Need-key-at-requires-2
-key-at-requires-2 c κs = waiting-ordered _ _ (c .before .before .before .before .pre)
-
-lesser-requires : tie.Need-lesser-requires
-lesser-requires c κs = search needs
-
-swap-requires : tie.Need-swap-requires
-swap-requires c κs = search needs
-
-go-alone-requires-2 : tie.Need-go-alone-requires-2
-go-alone-requires-2 c κs =
-    let n = c .before .before .before in
-    let a = n .before .before .before in
-    let p = told-sweeping (a .before .before .pre) in
-    let swapped = swaps _ _ p _ _ (a .key-at .ensures ∙ slot-key _ _ p) (c .before .before .lesser .ensures) .sweeping in
-    rw (c .swap .ensures) (swapped, (refl, (n .key-at2 .ensures ∙ slot-key _ _ swapped, c .before .if2 .taken)))
+stand-requires : tie.Need-stand-requires
+stand-requires c κs = search needs
 
 returns-2 : tie.Need-returns-2
 returns-2 c =
-    let w = c .before in
-    let a = w .before .before .before .before .before .before in
-    let p = told-sweeping (a .before .before .pre) in
-    stood-tried _ (stepped-alike _ _ _ _ (swaps _ _ p _ _ (a .key-at .ensures ∙ slot-key _ _ p) (w .before .before .lesser .ensures)) (rw (w .swap .ensures) at (c .go-alone2 .ensures)))
+    let t = c .before .before .before in
+    let k = t .before .before in
+    let a = k .before .before .args in
+    rw (c .stand .ensures)
+    (sym (neared-fenced (a .e .now) (a .m) (rw (k .key-of .ensures) at (t .if1 .left)) (rw (k .key-of .ensures) at (c .before .if2 .taken))))
+
+level-of-requires : tie.Need-level-of-requires
+level-of-requires c κs = search needs
+
+go-requires : tie.Need-go-requires
+go-requires c κs = search needs
 
 returns-3 : tie.Need-returns-3
-returns-3 c = blocked-tried _ (c .before .before .before .before .before .before .before .pre)
+returns-3 c =
+    let v = c .before .before in
+    let u = v .before in
+    let t = u .before .before in
+    let k = t .before .before in
+    let a = k .before .before .args in
+    rw (c .go .ensures, v .level-of .ensures)
+    (sym (neared-gone (a .e .now) (a .m) (rw (k .key-of .ensures) at (t .if1 .left)) (rw (k .key-of .ensures) at (u .if2 .left))))
 
 pub near-spec : {M : Type 1} → statement M
 near-spec =
     tie.close
     (tie.spec
-    key-at-requires
-    go-alone-requires
+    key-of-requires
+    none-requires
     returns
-    key-at-requires-2
-    lesser-requires
-    swap-requires
-    go-alone-requires-2
+    stand-requires
     returns-2
+    level-of-requires
+    go-requires
     returns-3)

@@ -1,7 +1,7 @@
--- `sweep::advance` meets its contract: one of the two levels comes to the next live docket, or the search does.
+-- `sweep::advance` meets its contract: one step is enough, or the search goes on from there.
+use Rattle.steps.proofs.Steps.{told-sweeping, near-leads}
+use Rattle.sweep.proofs.Arriving.{advanced-at-once, advanced-later}
 use borrow.Author.Needs.{needs}
-use Rattle.steps.proofs.Heads.{told-sweeping}
-use Rattle.steps.proofs.Steps.{tried-arrived, tried-on}
 use Rattle.sweep.proofs.advance.Statement.{statement}
 use Rattle.sweep.proofs.advance.Tie as tie
 
@@ -10,24 +10,27 @@ near-requires c κs = search needs
 
 returns : tie.Need-returns
 returns c =
-    let t = c .before .before .near .ensures in
-    (t .sweeping, tried-arrived t (c .if1 .taken))
+    let n = c .before .before in
+    advanced-at-once (n .before .before .args .e .now) (λ i. n .before .shared-slice-known .given i .fits) (n .before .before .args .m) (n .near .ensures) (c .if1 .taken)
 
 stand-requires : tie.Need-stand-requires
 stand-requires c κs = search needs
 
 search-requires : tie.Need-search-requires
-search-requires c κs = rw (c .stand .ensures) (told-sweeping (c .before .before .before .near .ensures .sweeping))
+search-requires c κs =
+    let n = c .before .before .before in
+    rw (c .stand .ensures, n .near .ensures) (told-sweeping (near-leads (λ i. n .before .shared-slice-known .given i .fits) (n .before .before .pre) .0))
 
 stand-requires-2 : tie.Need-stand-requires-2
 stand-requires-2 c κs = search needs
 
 returns-2 : tie.Need-returns-2
 returns-2 c =
-    let s = c .before in
-    let n = s .before .before in
-    rw (c .stand2 .ensures)
-    (told-sweeping (s .search .ensures .0), tried-on (n .before .before .near .ensures) (n .if1 .left) (s .search .result) (rw (s .before .stand .ensures) at (s .search .ensures .1)))
+    let o = c .before in
+    let t = o .before .before in
+    let n = t .before .before in
+    rw (c .stand2 .ensures, o .search .ensures, o .before .stand .ensures)
+    (advanced-later (n .before .before .args .e .now) (λ i. n .before .shared-slice-known .given i .fits) (n .before .before .args .m) (n .near .ensures) (t .if1 .left))
 
 pub advance-spec : {M : Type 1} → statement M
 advance-spec =

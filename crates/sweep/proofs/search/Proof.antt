@@ -1,14 +1,16 @@
--- `sweep::search` meets its contract. The loop's invariant: the sweep lists what it had to come.
-use mathlib.Core.Path.{_≡_, refl, _∙_}
-use borrow.Author.Tests.{eq-eqb}
-use Rattle.steps.specs.Sweeps.{Sweeping, rest, listed}
-use Rattle.steps.proofs.Heads.{told-sweeping}
-use Rattle.steps.proofs.Steps.{steps-left, listed-same, fewer-steps}
+-- `sweep::search` meets its contract. The loop's invariant: from here on the sweep arrives where it was to arrive.
+use mathlib.Core.Path.{_≡_, refl, sym, _∙_}
+use Rattle.covers.proofs.Chains.{Words}
+use Rattle.steps.specs.Sweeps.{Sweeping}
+use Rattle.steps.proofs.Steps.{told-sweeping, steps-left, fewer-steps}
+use Rattle.sweep.specs.Sweeps.{arrived}
+use Rattle.sweep.proofs.Crossing.{step-stepped}
+use Rattle.sweep.proofs.Arriving.{turned, stopped}
 use Rattle.sweep.proofs.search.Statement.{statement}
 use Rattle.sweep.proofs.search.Tie as tie
 
 abbrev Inv-loop : tie.InvT-loop
-Inv-loop e r₀ r = Sweeping e r × (listed e r ≡ rest e r₀)
+Inv-loop e r₀ r = Sweeping e r × (arrived (steps-left e r) e r ≡ arrived (steps-left e r₀) e r₀)
 
 abbrev μ-loop : tie.MeasureT-loop
 μ-loop e r₀ r = steps-left e r
@@ -20,16 +22,21 @@ step-requires : tie.Need-step-requires Inv-loop μ-loop
 step-requires c κs = c .before .before .loop .inv .0
 
 loop-less : tie.Need-loop-less Inv-loop μ-loop
-loop-less c = fewer-steps (c .step .ensures) (c .before .if1 .taken)
+loop-less c =
+    let l = c .before .before .before in
+    rw (c .step .ensures) (fewer-steps (step-stepped (λ i. l .before .shared-slice-known .given i .fits) (l .loop .inv .0)) (c .before .if1 .taken))
 
 loop-again : tie.Need-loop-again Inv-loop μ-loop
 loop-again c =
-    (c .step .ensures .sweeping, listed-same (c .step .ensures) (c .before .if1 .taken) ∙ c .before .before .before .loop .inv .1)
+    let l = c .before .before .before in
+    let words : Words (l .before .before .args .e .now) = λ i. l .before .shared-slice-known .given i .fits in
+    rw (c .step .ensures)
+    (step-stepped words (l .loop .inv .0) .sweeping, turned (l .before .before .args .e .now) words (l .loop .r) (l .loop .inv .0) (c .before .if1 .taken) ∙ l .loop .inv .1)
 
 returns : tie.Need-returns Inv-loop μ-loop
 returns c =
-    let i = c .before .before .loop .inv in
-    (i .0, rw (eq-eqb _ 0 (c .if1 .left)) at (i .1))
+    let l = c .before .before in
+    sym (stopped (l .before .before .args .e .now) (λ i. l .before .shared-slice-known .given i .fits) (l .loop .r) (c .if1 .left)) ∙ l .loop .inv .1
 
 pub search-spec : {M : Type 1} → statement M
 search-spec =

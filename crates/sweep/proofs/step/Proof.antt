@@ -1,26 +1,30 @@
--- `sweep::step` meets its contract: a step by one of the two levels, or by another.
-use mathlib.Core.Path.{refl}
+-- `sweep::step` meets its contract: past the fence or before it.
+use mathlib.Core.Path.{sym}
+use Rattle.sweep.proofs.Crossing.{step-crosses, step-near}
 use borrow.Author.Needs.{needs}
-use Rattle.steps.proofs.Heads.{told-sweeping}
-use Rattle.steps.proofs.Steps.{stood-stepped, tried-stepped}
 use Rattle.sweep.proofs.step.Statement.{statement}
 use Rattle.sweep.proofs.step.Tie as tie
+
+key-of-requires : tie.Need-key-of-requires
+key-of-requires c κs = search needs
+
+cross-requires : tie.Need-cross-requires
+cross-requires c κs = search needs
+
+returns : tie.Need-returns
+returns c =
+    let k = c .before .before .before in
+    let a = k .before .before .args in
+    rw (c .cross .ensures) (sym (step-crosses (a .e .now) (a .m) (rw (k .key-of .ensures) at (c .before .if1 .taken))))
 
 near-requires : tie.Need-near-requires
 near-requires c κs = search needs
 
-stand-requires : tie.Need-stand-requires
-stand-requires c κs = search needs
-
-change-level-requires : tie.Need-change-level-requires
-change-level-requires c κs = rw (c .stand .ensures) (told-sweeping (c .before .before .before .before .before .pre), refl)
-
-returns : tie.Need-returns
-returns c = stood-stepped _ (rw (c .before .stand .ensures) at (c .change-level .ensures))
-
 returns-2 : tie.Need-returns-2
-returns-2 c = tried-stepped (c .before .before .near .ensures) (c .if1 .left)
+returns-2 c =
+    let k = c .before .before .before in
+    let a = k .before .before .args in
+    rw (c .near .ensures) (sym (step-near (a .e .now) (a .m) (rw (k .key-of .ensures) at (c .before .if1 .left))))
 
 pub step-spec : {M : Type 1} → statement M
-step-spec =
-    tie.close (tie.spec near-requires stand-requires change-level-requires returns returns-2)
+step-spec = tie.close (tie.spec key-of-requires cross-requires returns near-requires returns-2)

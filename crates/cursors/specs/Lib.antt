@@ -1,2 +1,0 @@
--- Cursors in the levels: what they still have to come.
-pub mod Cursors

@@ -1,0 +1,3 @@
+-- Laws of ranges still to come.
+pub mod Surveys
+pub mod Covers

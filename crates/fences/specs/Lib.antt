@@ -1,0 +1,2 @@
+-- Ranges still to come.
+pub mod Fences

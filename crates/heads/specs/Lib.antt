@@ -1,0 +1,2 @@
+-- What levels have next.
+pub mod Heads

@@ -1,2 +1,0 @@
--- What is known of the two levels that lead.
-pub mod Leading

@@ -1,2 +1,0 @@
--- Which two levels lead.
-pub mod Leads
