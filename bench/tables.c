@@ -6,7 +6,7 @@
 
 #include <string.h>
 
-enum { WIDEST = 4 };
+enum { WIDEST = 4, PUT_KIND = 1, RANGE_KIND = 3 };
 
 const char mixed_calls[] = "PPPPPPPPDDRFTTGGGGGG";
 
@@ -30,13 +30,30 @@ struct call draw(const char *letters, uint32_t clock, uint32_t dockets, uint32_t
     return (struct call){.kind = kind, .clock = clock, .lo = lo, .hi = hi < dockets ? hi : dockets - 1, .tally = random_word()};
 }
 
-/* Every slot a put of its own docket, in one of the deepest levels by turns: sound tables, laid out word by word. */
-static void lay_by_turns(struct store *s, uint32_t slots, uint32_t turns) {
+/* A record of one docket, put before those of its chain: a put, or a range delete. */
+static void lay_record(struct store *s, uint32_t slot, uint32_t level, uint32_t kind, uint32_t docket) {
+    uint32_t *row = s->entries + 4 * slot, *in = s->levels + 4 * (level + 1), *first = in + (kind == RANGE_KIND);
+    row[0] = kind * 65536 + *first, row[1] = docket | docket << 16, row[2] = kind == PUT_KIND ? slot : 0, row[3] = 1;
+    *first = slot, in[2] += 1;
+    if (kind == RANGE_KIND) in[3] = 1;
+}
+
+/* Every slot a put of its own docket, in one of the deepest levels by turns or at random: sound tables, laid out word by word. */
+static void lay_levels(struct store *s, uint32_t deepest, uint32_t slots, uint32_t levels, int at_random) {
     s->entries[0] = 0, s->entries[1] = 1;
     for (uint32_t i = slots; i-- > 0;) {
-        uint32_t *level = s->levels + 4 * (DEEPEST - i % turns + 1), *row = s->entries + 4 * (i + 1), docket = (uint32_t)((uint64_t)i * 65536 / slots);
-        row[0] = 65536 + level[0], row[1] = docket | docket << 16, row[2] = i, row[3] = 1;
-        level[0] = i + 1, level[2] += 1;
+        uint32_t up = at_random ? random_below(levels) : i % levels;
+        lay_record(s, i + 1, deepest - up, PUT_KIND, (uint32_t)((uint64_t)i * 65536 / slots));
+    }
+}
+
+/* Puts in the deepest level, and a range delete between each two in the level above. */
+static void lay_ranges(struct store *s, uint32_t deepest, uint32_t slots) {
+    s->entries[0] = 0, s->entries[1] = 1;
+    for (uint32_t i = slots; i-- > 0;) {
+        uint32_t docket = (uint32_t)((uint64_t)i * 65535 / slots);
+        if (i % 2 == 0) lay_record(s, i + 1, deepest, PUT_KIND, docket);
+        else lay_record(s, i + 1, deepest - 1, RANGE_KIND, docket);
     }
 }
 
@@ -50,12 +67,30 @@ static void put_all(struct store *s, uint32_t live, int ascending) {
     for (uint32_t i = 0; i < live; i++) native_call(s, &(struct call){.kind = PUT, .clock = 1, .lo = order[i], .tally = i}, NULL);
 }
 
+/* How many levels are laid out, or 0 where the tables are made by calls. */
+static uint32_t levels_of(enum shape shape) {
+    switch (shape) {
+    case TWO_BY_TURNS:
+    case TWO_AT_RANDOM:
+    case RANGES_BETWEEN: return 2;
+    case THREE_BY_TURNS: return 3;
+    case SEVEN_BY_TURNS:
+    case SEVEN_AT_RANDOM: return 7;
+    default: return 0;
+    }
+}
+
 uint32_t fill(struct store *s, enum shape shape, uint32_t slots) {
-    uint32_t live = shape == MIXED ? (slots + 1) / 2 : slots, clock = 1;
-    s->entry_words = GUONTREM_ENTRY_WORDS(slots), s->level_words = LEVEL_WORDS;
-    native_make(s->entries, s->entry_words, s->levels, LEVEL_WORDS, DEEPEST, RATIO, BUFFER, TERM);
-    if (shape == TWO_BY_TURNS || shape == THREE_BY_TURNS) {
-        lay_by_turns(s, slots, shape == TWO_BY_TURNS ? 2 : 3);
+    uint32_t live = shape == MIXED ? (slots + 1) / 2 : slots, clock = 1, levels = levels_of(shape);
+    uint32_t deepest = levels == MOST_LEVELS ? MOST_LEVELS - 1 : DEEPEST;
+    s->entry_words = GUONTREM_ENTRY_WORDS(slots), s->level_words = GUONTREM_LEVEL_WORDS(deepest);
+    native_make(s->entries, s->entry_words, s->levels, s->level_words, deepest, RATIO, BUFFER, TERM);
+    if (shape == RANGES_BETWEEN) {
+        lay_ranges(s, deepest, slots);
+        return clock;
+    }
+    if (levels != 0) {
+        lay_levels(s, deepest, slots, levels, shape == TWO_AT_RANDOM || shape == SEVEN_AT_RANDOM);
         return clock;
     }
     native_checks = 0;

@@ -3,11 +3,31 @@
 
 #include "calls.h"
 
-enum { DEEPEST = 3, RATIO = 4, BUFFER = 8, TERM = 1000, LEVEL_WORDS = GUONTREM_LEVEL_WORDS(DEEPEST) };
+enum {
+    DEEPEST = 3,
+    RATIO = 4,
+    BUFFER = 8,
+    TERM = 1000,
+    LEVEL_WORDS = GUONTREM_LEVEL_WORDS(DEEPEST),
+    MOST_LEVELS = 7,
+    MOST_LEVEL_WORDS = GUONTREM_LEVEL_WORDS(MOST_LEVELS - 1)
+};
 
 /* What tables hold: half the slots live and as many mixed calls as slots after that; every slot live, put at random or in ascending order;
-   every slot live in two or three of the deepest levels, docket after docket by turns, in the order of slots. */
-enum shape { MIXED, PUT_AT_RANDOM, PUT_ASCENDING, TWO_BY_TURNS, THREE_BY_TURNS, SHAPES };
+   every slot live in some of the deepest levels, docket after docket by turns or at random, in the order of slots; live dockets in the
+   deepest level, and in the level above it a range delete between each two. Seven levels need an L of 6, the others have one of 3. */
+enum shape {
+    MIXED,
+    PUT_AT_RANDOM,
+    PUT_ASCENDING,
+    TWO_BY_TURNS,
+    THREE_BY_TURNS,
+    SEVEN_BY_TURNS,
+    TWO_AT_RANDOM,
+    SEVEN_AT_RANDOM,
+    RANGES_BETWEEN,
+    SHAPES
+};
 
 /* The calls of the mixed load, as letters of which one is drawn. */
 extern const char mixed_calls[];
@@ -15,7 +35,7 @@ extern const char mixed_calls[];
 /* A call at random: one of the letters of the script program, S for a scan of all dockets with a row for each slot, C for the check. */
 struct call draw(const char *letters, uint32_t clock, uint32_t dockets, uint32_t slots);
 
-/* Fills tables of so many slots; answers the last clock. Level tables have LEVEL_WORDS words. */
+/* Fills tables of so many slots; answers the last clock. Level tables have room for MOST_LEVEL_WORDS words where seven levels are laid, else for LEVEL_WORDS. */
 uint32_t fill(struct store *s, enum shape shape, uint32_t slots);
 
 #endif
