@@ -10,18 +10,19 @@ use lib.Dec.{leb, eqb}
 use lib.ListN.{length, length-append}
 use Rattle.lists.specs.Lists.{none, every}
 use Rattle.lists.specs.All.{All}
+use Rattle.lists.proofs.Bools.{cond-and, and-ap}
 use Rattle.lists.proofs.Tests.{all-append}
-use Rattle.marks.specs.Marks.{mark-of, with-mark}
 use Rattle.tables.specs.Words.{row-of, clock-of, slots-of, settings-of, level-row, first-free}
 use Rattle.tables.specs.Sound.{free-chain, point-chain, range-chain, is-free, is-point, is-range, order-key, ascend, is-stamped, owed-before, level-sound, levels-sound, record-slots, every-slot-once, chains-sound}
-use Rattle.forms.specs.declared.Class.{Class}
 use Rattle.forms.specs.declared.Class.the-variants.{Free, Points, Ranges}
 use Rattle.forms.specs.Forms.{record-fits, row-fits}
-use Rattle.walks.specs.Slots.{slot-fits}
-use Rattle.walks.specs.Walks.{rows-fit, unmarked-each, mark-each, walk-fits}
-use Rattle.level_check.specs.Levels.{level-slots, numbers-fit, level-fits}
+use Rattle.walks.specs.Walks.{Marked, walked}
 use Rattle.walks.proofs.Chains.{chain-nonzero}
-use Rattle.chains_check.specs.Levels.{levels-fit-from, chains-fit}
+use Rattle.walks.proofs.Each.{unmarked-each, mark-each, each-append}
+use Rattle.walks.proofs.Passed.{rows-fit, walk-means, walk-passes}
+use Rattle.level_check.specs.Levels.{numbers-fit, leveled}
+use Rattle.level_check.proofs.Passed.{level-slots, level-asks, level-passes}
+use Rattle.chains_check.specs.Levels.{levels-checked, words-fit, chains-checked}
 use Rattle.chains_check.proofs.Once.{Blank, marks-mean-once}
 
 and-swap : (a b x y : Bool) → (a && b) && (x && y) ≡ (a && x) && (b && y)
@@ -29,25 +30,6 @@ and-swap true true x y = refl
 and-swap true false true y = refl
 and-swap true false false y = refl
 and-swap false b x y = refl
-
--- A walk is what it asks of the rows, and what it asks of the marks.
-walk-bool : (a b c x y : Bool) → (a && (b && c)) && (x && y) ≡ (c && x) && (a && (b && y))
-walk-bool true true true x y = refl
-walk-bool true true false x y = refl
-walk-bool true false true true y = refl
-walk-bool true false true false y = refl
-walk-bool true false false x y = refl
-walk-bool false b true true y = refl
-walk-bool false b true false y = refl
-walk-bool false b false x y = refl
-
-walk-means : (class : Class) (e : List ℕ) (owed least : ℕ) (m ss : List ℕ)
-    → walk-fits class e owed least m ss ≡ rows-fit class e owed least ss && unmarked-each (slots-of e) m ss
-unfolding walk-fits slot-fits rows-fit unmarked-each
-walk-means class e owed least m [] = refl
-walk-means class e owed least m (s ∷ ss) =
-    rw (walk-means class e owed (order-key e s + 1) (with-mark m s) ss)
-    (walk-bool (leb s (slots-of e)) (eqb (mark-of m s) 0) (row-fits class e owed least s) (rows-fit class e owed (order-key e s + 1) ss) (unmarked-each (slots-of e) (with-mark m s) ss))
 
 -- The rows of a chain, one sentence for all of them at a time.
 free-rows : (e : List ℕ) (least : ℕ) (ss : List ℕ) → rows-fit Free e 0 least ss ≡ every (is-free e) ss
@@ -83,14 +65,6 @@ pub every-append : (t : ℕ → Bool) (xs ys : List ℕ) → every t (xs ++ ys) 
 unfolding every
 every-append t [] ys = refl
 every-append t (x ∷ xs) ys = ap (λ (b : Bool). t x && b) (every-append t xs ys) ∙ sym (and-assoc (t x) (every t xs) (every t ys))
-
-each-append : (n : ℕ) (m xs ys : List ℕ) → unmarked-each n m (xs ++ ys) ≡ unmarked-each n m xs && unmarked-each n (mark-each m xs) ys
-unfolding mark-each unmarked-each
-each-append n m [] ys = refl
-each-append n m (s ∷ xs) ys =
-    rw (each-append n (with-mark m s) xs ys)
-    (sym (ap (λ (b : Bool). leb s n && b) (and-assoc (eqb (mark-of m s) 0) (unmarked-each n (with-mark m s) xs) (unmarked-each n (mark-each (with-mark m s) xs) ys)))
-    ∙ sym (and-assoc (leb s n) (eqb (mark-of m s) 0 && unmarked-each n (with-mark m s) xs) (unmarked-each n (mark-each (with-mark m s) xs) ys)))
 
 none-length : (ss : List ℕ) → eqb (length ss) 0 ≡ none ss
 none-length [] = refl
@@ -137,15 +111,15 @@ module _ (e l : List ℕ) (i : ℕ) where
       wrong false = refl
 
   -- A level is sound, and its slots have no mark yet.
-  level-means : (m : List ℕ) → level-fits e l i m ≡ level-sound e l i && unmarked-each (slots-of e) m (level-slots e l i)
-  unfolding level-fits
+  pub level-means : (m : List ℕ) → leveled e l i m .answer .fits ≡ level-sound e l i && unmarked-each (slots-of e) m (level-slots e l i)
   level-means m =
       let owed = level-row l i .w3 in
       let ps = point-chain e l i in
       let rs = range-chain e l i in
-      rw (
-        walk-means Points e owed 0 m ps,
-        walk-means Ranges e owed 0 (mark-each m ps) rs,
+      level-asks e l i m
+      ∙ rw (
+        walk-means Points e owed 0 0 m ps,
+        walk-means Ranges e owed 0 0 (mark-each m ps) rs,
         each-append (slots-of e) m ps rs,
         ← level-rows,
       )
@@ -153,9 +127,9 @@ module _ (e l : List ℕ) (i : ℕ) where
 
 module _ (e l : List ℕ) where
   levels-means : (j i : ℕ) (m : List ℕ) (total : ℕ)
-      → levels-fit-from e l j i m total
+      → levels-checked e l j i m total .answer
       ≡ levels-sound e l j i && (unmarked-each (slots-of e) m (record-slots e l j i) && eqb (total + length (record-slots e l j i)) (slots-of e))
-  unfolding levels-fit-from levels-sound record-slots unmarked-each
+  unfolding levels-checked levels-sound record-slots unmarked-each
   levels-means zero i m total = ap (λ (k : ℕ). eqb k (slots-of e)) (omega arith)
   levels-means (suc j) i m total =
       let rest = record-slots e l j (suc i) in
@@ -163,22 +137,25 @@ module _ (e l : List ℕ) where
       let n = slots-of e in
       let last = eqb (total + length here + length rest) n in
       let sum : total + length here + length rest ≡ total + length (here ++ rest) = omega (arith, length-append here rest) in
-      rw (level-means e l i m, levels-means j (suc i) (mark-each m here) (total + length here), each-append n m here rest, ← sum)
+      cond-and (λ (x : Marked Bool). x .answer) (leveled e l i m .answer .fits) _ _ refl
+      ∙ and-ap (leveled e l i m .answer .fits) {c = levels-sound e l j (suc i) && (unmarked-each n (mark-each m here) rest && last)} (λ t. rw (level-passes e l i m t) (levels-means j (suc i) (mark-each m here) (total + length here)))
+      ∙ rw (level-means e l i m, each-append n m here rest, ← sum)
       (and-swap (level-sound e l i) (unmarked-each n m here) (levels-sound e l j (suc i)) (unmarked-each n (mark-each m here) rest && last)
       ∙ ap (λ (b : Bool). (level-sound e l i && levels-sound e l j (suc i)) && b) (sym (and-assoc (unmarked-each n m here) (unmarked-each n (mark-each m here) rest) last)))
+
+  pub level-nonzero : (i : ℕ) → All (λ s. s ≢ 0) (level-slots e l i)
+  level-nonzero i =
+      all-append (λ s. s ≢ 0) (point-chain e l i) (range-chain e l i) (chain-nonzero (length e) e (level-row l i .w0)) (chain-nonzero (length e) e (level-row l i .w1))
 
   records-nonzero : (j i : ℕ) → All (λ s. s ≢ 0) (record-slots e l j i)
   unfolding record-slots
   records-nonzero zero i = tt
-  records-nonzero (suc j) i =
-      all-append (λ s. s ≢ 0) (level-slots e l i) (record-slots e l j (suc i))
-      (all-append (λ s. s ≢ 0) (point-chain e l i) (range-chain e l i) (chain-nonzero (length e) e (level-row l i .w0)) (chain-nonzero (length e) e (level-row l i .w1)))
-      (records-nonzero j (suc i))
+  records-nonzero (suc j) i = all-append (λ s. s ≢ 0) (level-slots e l i) (record-slots e l j (suc i)) (level-nonzero i) (records-nonzero j (suc i))
 
   pub slots-nonzero : (j : ℕ) → All (λ s. s ≢ 0) (free-chain e ++ record-slots e l j 0)
   slots-nonzero j = all-append (λ s. s ≢ 0) (free-chain e) (record-slots e l j 0) (chain-nonzero (length e) e (first-free e)) (records-nonzero j 0)
 
-chains-bool : (a b f l o q : Bool) → a && (b && (o && ((f && l) && q))) ≡ a && b && f && l && o && q
+chains-bool : (a b f l o q : Bool) → (a && (b && o)) && ((f && l) && q) ≡ a && b && f && l && o && q
 chains-bool false b f l o q = refl
 chains-bool true false f l o q = refl
 chains-bool true true true true true q = refl
@@ -188,9 +165,22 @@ chains-bool true true true false false q = refl
 chains-bool true true false l true q = refl
 chains-bool true true false l false q = refl
 
+-- The levels are asked only over the marks of a free chain that fits.
+chains-ask : (e l m : List ℕ)
+    → chains-checked e l m .answer
+    ≡ words-fit e l
+    && (walked Free e 0 0 0 m (free-chain e) .answer .fits
+    && levels-checked e l (settings-of l .deepest + 1) 0 (mark-each m (free-chain e)) (length (free-chain e)) .answer)
+unfolding chains-checked
+chains-ask e l m =
+    let fits = walked Free e 0 0 0 m (free-chain e) .answer .fits in
+    cond-and (λ (x : Marked Bool). x .answer) (words-fit e l) _ _ refl
+    ∙ ap (λ (b : Bool). words-fit e l && b)
+    (cond-and (λ (x : Marked Bool). x .answer) fits _ _ refl ∙ and-ap fits (λ t. rw (walk-passes Free e 0 m (free-chain e) t)))
+
 -- Over blank marks for every slot the check of the chains is the definition.
-pub chains-mean : (e l m : List ℕ) → slots-of e < 8 * length m → Blank (slots-of e) m → chains-fit e l m ≡ chains-sound e l
-unfolding chains-fit chains-sound
+pub chains-mean : (e l m : List ℕ) → slots-of e < 8 * length m → Blank (slots-of e) m → chains-checked e l m .answer ≡ chains-sound e l
+unfolding chains-sound
 chains-mean e l m h b =
     let n = slots-of e in
     let d = settings-of l .deepest in
@@ -202,10 +192,11 @@ chains-mean e l m h b =
     ap (λ (t : Bool). t && last) (sym (each-append n m free records))
     ∙ ap (λ (k : ℕ). unmarked-each n m (free ++ records) && eqb k n) (sym (length-append free records))
     ∙ marks-mean-once n m (free ++ records) h b (slots-nonzero e l (suc d)) in
-    let all : walk-fits Free e 0 0 m free && levels-fit-from e l (d + 1) 0 (mark-each m free) (length free)
+    let all : walked Free e 0 0 0 m free .answer .fits && levels-checked e l (d + 1) 0 (mark-each m free) (length free) .answer
     ≡ (every (is-free e) free && levels-sound e l (suc d) 0) && every-slot-once n (free ++ records) =
-    rw (add, walk-means Free e 0 0 m free, free-rows e 0 free, levels-means e l (suc d) 0 (mark-each m free) (length free), ← once)
+    rw (add, walk-means Free e 0 0 0 m free, free-rows e 0 free, levels-means e l (suc d) 0 (mark-each m free) (length free), ← once)
     (and-swap (every (is-free e) free) (unmarked-each n m free) (levels-sound e l (suc d) 0) (unmarked-each n (mark-each m free) records && last)
     ∙ ap (λ (t : Bool). (every (is-free e) free && levels-sound e l (suc d) 0) && t) (sym (and-assoc (unmarked-each n m free) (unmarked-each n (mark-each m free) records) last))) in
-    ap (λ (t : Bool). eqb (row-of e 0 .w2) 0 && (eqb (row-of e 0 .w3) 0 && (eqb (level-row l d .w3) 0 && t))) all
+    chains-ask e l m
+    ∙ ap (λ (t : Bool). words-fit e l && t) all
     ∙ chains-bool (eqb (row-of e 0 .w2) 0) (eqb (row-of e 0 .w3) 0) (every (is-free e) free) (levels-sound e l (suc d) 0) (eqb (level-row l d .w3) 0) (every-slot-once n (free ++ records))

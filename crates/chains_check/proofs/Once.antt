@@ -1,13 +1,13 @@
 -- That the marks say what `every-slot-once` says.
 use mathlib.Core.Path.{_≡_, refl}
 use mathlib.Core.Logic.{_≢_}
-use mathlib.Core.Bool.{true, _&&_, and-eq-true-iff}
+use mathlib.Core.Bool.{true, _&&_}
 use mathlib.Core.List.{List, [], _∷_}
 use Prim.Native.Nat.{ℕ, zero, suc, _+_, _*_, _<_, _≤_}
 use native.Mathlib.Omega.{arith}
 use native.Mathlib.Decide.{ℕ-discrete}
-use borrow.Author.Tests.{eq-eqb, ne-eqb, le-leb, eqb-true, leb-true}
-use lib.Dec.{leb, eqb}
+use borrow.Author.Tests.{eq-eqb, ne-eqb, le-leb, eqb-true}
+use lib.Dec.{eqb}
 use lib.ListN.{length}
 use Rattle.lists.specs.Lists.{count}
 use Rattle.lists.specs.All.{All}
@@ -17,21 +17,9 @@ use Rattle.marks.specs.Marks.{mark-of, with-mark}
 use Rattle.marks.proofs.Marks.{length-with-mark, mark-same, mark-other}
 use Rattle.tables.specs.Sound.{every-slot-once}
 use Rattle.tables.proofs.Once.{OnceFacts, once-facts, facts-once, Inside, once-inside, once-most}
-use Rattle.walks.specs.Walks.{unmarked-each, mark-each, unmarked}
-use Rattle.walks.proofs.Unmarked.{one-if, clear, unmarked-mark}
-
--- What an accepted slot says.
-record Head (n : ℕ) (m : List ℕ) (t : ℕ) (ts : List ℕ) : Type 0 where
-  inside : t ≤ n
-  blank : mark-of m t ≡ 0
-  rest : unmarked-each n (with-mark m t) ts ≡ true
-
-head : (n : ℕ) (m : List ℕ) (t : ℕ) (ts : List ℕ) → unmarked-each n m (t ∷ ts) ≡ true → Head n m t ts
-unfolding unmarked-each
-head n m t ts q =
-    let a = and-eq-true-iff (leb t n) (eqb (mark-of m t) 0 && unmarked-each n (with-mark m t) ts) .0 q in
-    let b = and-eq-true-iff (eqb (mark-of m t) 0) (unmarked-each n (with-mark m t) ts) .0 (a .1) in
-    record { inside = leb-true t n (a .0); blank = eqb-true (mark-of m t) 0 (b .0); rest = b .1 }
+use Rattle.walks.specs.Walks.{unmarked}
+use Rattle.walks.proofs.Unmarked.{one-if, clear}
+use Rattle.walks.proofs.Each.{unmarked-each, mark-each, Head, head, total-count}
 
 slot-count : (n : ℕ) (m ss : List ℕ) (s : ℕ) → n < 8 * length m → s ≤ n → unmarked-each n m ss ≡ true → count (eqb s) ss + clear (mark-each m ss) s ≡ clear m s
 unfolding count mark-each
@@ -51,18 +39,6 @@ slot-count n m (t ∷ ts) s l h q =
         let a : clear (with-mark m t) s ≡ clear m s = rw (mark-other m t s (omega (arith, hd .inside)) r (hd .blank)) in
         let d : one-if (eqb s t) ≡ 0 = rw (ne-eqb s t r) in
         omega arith
-
-total-count : (n : ℕ) (m ss : List ℕ) → n < 8 * length m → All (λ s. s ≢ 0) ss → unmarked-each n m ss ≡ true
-    → length ss + unmarked n (mark-each m ss) ≡ unmarked n m
-unfolding mark-each
-total-count n m [] l z q = omega arith
-total-count n m (t ∷ ts) l z q =
-    let hd = head n m t ts q in
-    omega (
-      arith,
-      total-count n (with-mark m t) ts (rw length-with-mark l) (z .1) (hd .rest),
-      unmarked-mark n m t (omega (arith, hd .inside)) (z .0) (hd .inside) (hd .blank),
-    )
 
 -- None of 1 to n is left.
 all-marked : (n : ℕ) (m : List ℕ) (s : ℕ) → unmarked n m ≡ 0 → s ≢ 0 → s ≤ n → clear m s ≡ 0

@@ -9,7 +9,7 @@ ghost use lib.ListN.{length};
 ghost use Rattle.tables.specs.Words.{slots-of, settings-of};
 ghost use Rattle.walks.specs.Slots.{Entries};
 ghost use Rattle.walks.specs.Walks.{unmarked};
-ghost use Rattle.chains_check.specs.Levels.{levels-fit-from, chains-fit};
+ghost use Rattle.chains_check.specs.Levels.{levels-checked, chains-checked};
 
 // All levels, and that their records and the free slots are all slots: with the marks, each then stands once.
 fn levels_fit(e: &[u32], l: &[u32], free: usize, marks: &mut [u8]) -> bool
@@ -18,7 +18,7 @@ fn levels_fit(e: &[u32], l: &[u32], free: usize, marks: &mut [u8]) -> bool
     requires { ⌜ settings-of (now l) .deepest ≤ 6 ⌝ }
     requires { ⌜ length (now l) ≡ 4 * (settings-of (now l) .deepest + 2) ⌝ }
     requires { ⌜ free + unmarked (slots-of (now e)) (now marks) ≤ slots-of (now e) ⌝ }
-    ensures { λ r. ⌜ r ≡ levels-fit-from (now (e .entry)) (now (l .entry)) (settings-of (now (l .entry)) .deepest + 1) 0 (now (marks .entry)) free ⌝ }
+    ensures { λ r. ⌜ record { answer = r; marks = now (marks .exit) } ≡ levels-checked (now (e .entry)) (now (l .entry)) (settings-of (now (l .entry)) .deepest + 1) 0 (now (marks .entry)) free ⌝ }
 {
     let deepest = l[0] as usize;
     let mut total = free;
@@ -40,7 +40,7 @@ pub fn chains_fit(e: &[u32], l: &[u32], marks: &mut [u8]) -> bool
     requires { ⌜ slots-of (now e) < 8 * length (now marks) ⌝ }
     requires { ⌜ settings-of (now l) .deepest ≤ 6 ⌝ }
     requires { ⌜ length (now l) ≡ 4 * (settings-of (now l) .deepest + 2) ⌝ }
-    ensures { λ r. ⌜ r ≡ chains-fit (now (e .entry)) (now (l .entry)) (now (marks .entry)) ⌝ }
+    ensures { λ r. ⌜ record { answer = r; marks = now (marks .exit) } ≡ chains-checked (now (e .entry)) (now (l .entry)) (now (marks .entry)) ⌝ }
 {
     if e[2] != 0 {
         return false;

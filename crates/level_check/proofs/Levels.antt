@@ -1,59 +1,41 @@
 -- Laws of one level, as the code asks them.
-use mathlib.Core.Path.{_≡_, refl, sym, ap, _∙_}
-use mathlib.Core.Bool.{Bool, true, false, false≢true}
-use mathlib.Core.List.{List, [], _∷_, _++_}
-use Prim.Native.Nat.{ℕ, _+_}
+use mathlib.Core.Path.{_≡_, sym}
+use mathlib.Core.Bool.{Bool, true, false}
+use mathlib.Core.List.{List}
+use Prim.Native.Nat.{ℕ, _+_, _*_, _<_, _≤_}
 use native.Mathlib.Omega.{arith}
-use lib.ListN.{length, length-append}
-use Rattle.marks.specs.Marks.{with-mark}
+use lib.ListN.{length}
 use Rattle.tables.specs.Words.{slots-of, level-row}
 use Rattle.tables.specs.Sound.{point-chain, range-chain}
 use Rattle.forms.specs.declared.Class.the-variants.{Points, Ranges}
-use Rattle.walks.specs.Walks.{walk-fits, mark-each, unmarked, Went}
-use Rattle.level_check.specs.Levels.{level-slots, numbers-fit, level-fits, Leveled}
+use Rattle.walks.specs.declared.Walked.{Walked}
+use Rattle.walks.specs.Walks.{stopped, walked}
+use Rattle.walks.proofs.Unmarked.{unmarked-le}
+use Rattle.walks.proofs.Passed.{walk-sum}
+use Rattle.level_check.specs.Levels.{numbers-fit, leveled}
 
-pub mark-each-append : (m xs ys : List ℕ) → mark-each m (xs ++ ys) ≡ mark-each (mark-each m xs) ys
-unfolding mark-each
-mark-each-append m [] ys = refl
-mark-each-append m (s ∷ xs) ys = mark-each-append (with-mark m s) xs ys
+module _ (e l : List ℕ) (i : ℕ) (m : List ℕ) where
+  module _ {m1 : List ℕ} {p : Walked} (w1 : record { answer = p; marks = m1 } ≡ walked Points e (level-row l i .w3) 0 0 m (point-chain e l i)) where
+    pub points-fail : p .fits ≡ false → stopped m1 ≡ leveled e l i m
+    unfolding leveled
+    points-fail q = rw (sym w1, q)
 
-failed : {e l : List ℕ} {i : ℕ} {m m′ : List ℕ} → false ≡ level-fits e l i m → Leveled e l i m m′ false 0
-failed q = record { right = q; number = λ x. absurd (false≢true x); marks = λ x. absurd (false≢true x); sum = λ x. absurd (false≢true x) }
+    module _ {m2 : List ℕ} {r : Walked} (w2 : record { answer = r; marks = m2 } ≡ walked Ranges e (level-row l i .w3) 0 0 m1 (range-chain e l i)) (t : p .fits ≡ true) where
+      pub ranges-fail : r .fits ≡ false → stopped m2 ≡ leveled e l i m
+      unfolding leveled
+      ranges-fail q = rw (sym w1, t, sym w2, q)
 
-module _ {e : List ℕ} (l : List ℕ) (i : ℕ) {m : List ℕ} where
-  module _ {m1 : List ℕ} {fits1 : Bool} {k1 : ℕ} (w1 : Went Points e (level-row l i .w3) (point-chain e l i) m m1 fits1 k1) where
-    wrong-points : fits1 ≡ false → false ≡ level-fits e l i m
-    unfolding level-fits
-    wrong-points q = rw (sym (w1 .right) ∙ q)
+      -- Slots are counted that had no mark, and there are no more of them than slots.
+      pub level-room : slots-of e < 8 * length m → slots-of e < 8 * length m1 → r .fits ≡ true → p .count + r .count ≤ slots-of e
+      level-room room room1 q =
+          omega (
+            arith,
+            walk-sum Points e (level-row l i .w3) (level-row l i .w0) m room w1 t,
+            walk-sum Ranges e (level-row l i .w3) (level-row l i .w1) m1 room1 w2 q,
+            unmarked-le (slots-of e) m,
+          )
 
-    pub points-fail : {m′ : List ℕ} → fits1 ≡ false → Leveled e l i m m′ false 0
-    points-fail q = failed (wrong-points q)
-
-    module _ {m2 : List ℕ} {fits2 : Bool} {k2 : ℕ} (w2 : Went Ranges e (level-row l i .w3) (range-chain e l i) m1 m2 fits2 k2) (t : fits1 ≡ true) where
-      one : walk-fits Points e (level-row l i .w3) 0 m (point-chain e l i) ≡ true
-      one = sym (w1 .right) ∙ t
-
-      two : walk-fits Ranges e (level-row l i .w3) 0 (mark-each m (point-chain e l i)) (range-chain e l i) ≡ fits2
-      two = ap (λ (z : List ℕ). walk-fits Ranges e (level-row l i .w3) 0 z (range-chain e l i)) (sym (w1 .marks t)) ∙ sym (w2 .right)
-
-      wrong-ranges : fits2 ≡ false → false ≡ level-fits e l i m
-      unfolding level-fits
-      wrong-ranges q = rw (one, two ∙ q)
-
-      pub ranges-fail : {m′ : List ℕ} → fits2 ≡ false → Leveled e l i m m′ false 0
-      ranges-fail q = failed (wrong-ranges q)
-
-      number : fits2 ≡ true → k1 + k2 ≡ length (level-slots e l i)
-      number q = omega (arith, length-append (point-chain e l i) (range-chain e l i), w1 .number t, w2 .number q)
-
-      pub level-sum : fits2 ≡ true → k1 + k2 + unmarked (slots-of e) m2 ≡ unmarked (slots-of e) m
-      level-sum q = omega (arith, w1 .sum t, w2 .sum q)
-
-      pub level-ends : {fits3 : Bool} → fits2 ≡ true → fits3 ≡ numbers-fit e l i (k1 + k2) → Leveled e l i m m2 fits3 (k1 + k2)
-      unfolding level-fits
-      level-ends q r = record {
-        right = rw (one, two ∙ q, ← (number q)) r;
-        number = λ x. number q;
-        marks = λ x. w2 .marks q ∙ ap (λ (z : List ℕ). mark-each z (range-chain e l i)) (w1 .marks t) ∙ sym (mark-each-append m (point-chain e l i) (range-chain e l i));
-        sum = λ x. level-sum q;
-      }
+      pub level-ends : {fits : Bool} → r .fits ≡ true → fits ≡ numbers-fit e l i (p .count + r .count)
+          → record { answer = record { fits = fits; count = p .count + r .count }; marks = m2 } ≡ leveled e l i m
+      unfolding leveled
+      level-ends q n = rw (sym w1, t, sym w2, q, n)

@@ -1,2 +1,3 @@
 -- The laws of one level.
 pub mod Levels
+pub mod Passed

@@ -7,7 +7,7 @@ ghost use Prim.Native.Nat.{_+_, _*_, _<_};
 ghost use lib.ListN.{length};
 ghost use Rattle.tables.specs.Words.{slots-of};
 ghost use Rattle.walks.specs.Slots.{Entries};
-ghost use Rattle.level_check.specs.Levels.{numbers-fit, Leveled};
+ghost use Rattle.level_check.specs.Levels.{numbers-fit, leveled};
 
 // A level's number of records and its owed.
 fn numbers_fit(e: &[u32], l: &[u32], i: usize, count: usize) -> bool
@@ -34,7 +34,7 @@ pub fn level(e: &[u32], l: &[u32], i: usize, marks: &mut [u8]) -> Walked
     requires { ⌜ Entries (now e) ⌝ }
     requires { ⌜ slots-of (now e) < 8 * length (now marks) ⌝ }
     requires { ⌜ 4 * (i + 1) + 3 < length (now l) ⌝ }
-    ensures { λ r. ⌜ Leveled (now (e .entry)) (now (l .entry)) i (now (marks .entry)) (now (marks .exit)) (r .fits) (r .count) ⌝ }
+    ensures { λ r. ⌜ record { answer = r; marks = now (marks .exit) } ≡ leveled (now (e .entry)) (now (l .entry)) i (now (marks .entry)) ⌝ }
 {
     let row = 4 * (i + 1);
     let owed = l[row + 3];

@@ -19,6 +19,11 @@ pub cond-same {ℓ} : {X : Type ℓ} (b : Bool) (x : X) → cond b x x ≡ x
 cond-same true x = refl
 cond-same false x = refl
 
+-- A choice whose second branch says false.
+pub cond-and {ℓ} : {X : Type ℓ} (says : X → Bool) (b : Bool) (x y : X) → says y ≡ false → says (cond b x y) ≡ b && says x
+cond-and says true x y q = refl
+cond-and says false x y q = q
+
 -- A statement by the outcome of a test.
 pub by-cases {ℓ} : {P : Type ℓ} (b : Bool) → (b ≡ true → P) → (b ≡ false → P) → P
 by-cases true p q = p refl
@@ -38,6 +43,11 @@ and-right false b h = absurd (false≢true h)
 pub and-intro : (a b : Bool) → a ≡ true → b ≡ true → a && b ≡ true
 and-intro true b p q = q
 and-intro false b p q = p
+
+-- What is asked second is asked where the first holds.
+pub and-ap : (a : Bool) {b c : Bool} → (a ≡ true → b ≡ c) → a && b ≡ a && c
+and-ap true q = q refl
+and-ap false q = refl
 
 pub and-false-left : (a b : Bool) → a ≡ false → a && b ≡ false
 and-false-left true b h = absurd (true≢false h)

@@ -2,3 +2,5 @@
 pub mod Chains
 pub mod Unmarked
 pub mod Walks
+pub mod Each
+pub mod Passed

@@ -1,11 +1,10 @@
 -- Laws of the walk's loop: how it starts, goes on and ends.
-use mathlib.Core.Path.{_≡_, refl, sym, ap, _∙_}
+use mathlib.Core.Path.{_≡_, refl, _∙_}
 use mathlib.Core.Logic.{_≢_}
-use mathlib.Core.Bool.{true, false, _&&_, false≢true, and-eq-true-iff}
+use mathlib.Core.Bool.{true, false, _&&_, and-eq-true-iff}
 use mathlib.Core.List.{List, _∷_}
 use Prim.Native.Nat.{ℕ, _+_, _-_, _*_, _<_, _≤_}
 use native.Mathlib.Omega.{arith}
-use native.Mathlib.Nat.{zero-add}
 use borrow.Author.Tests.{eqb-true, leb-true}
 use lib.Dec.{leb, eqb}
 use lib.ListN.{length}
@@ -16,19 +15,17 @@ use Rattle.tables.specs.Sound.{chain, chain-from, order-key}
 use Rattle.forms.specs.declared.Class.{Class}
 use Rattle.forms.specs.Forms.{row-fits}
 use Rattle.walks.specs.Slots.{Entries, slot-fits}
-use Rattle.walks.specs.Walks.{walk-fits, mark-each, unmarked, Went}
+use Rattle.walks.specs.Walks.{stopped, walked, unmarked}
 use Rattle.walks.proofs.Chains.{chain-end, chain-on}
 use Rattle.walks.proofs.Unmarked.{unmarked-le, unmarked-mark}
 
--- A walk that has reached slot at, and what its end will say of the whole.
+-- A walk that has reached slot at: its rest gives what the whole gives.
 pub record Going (class : Class) (e : List ℕ) (owed : ℕ) (m₀ ss : List ℕ) (m : List ℕ) (at least count : ℕ) : Type 0 where
   pub fuel : ℕ
   pub room : unmarked (slots-of e) m < fuel
   pub len : length m ≡ length m₀
   pub sum : count + unmarked (slots-of e) m ≡ unmarked (slots-of e) m₀
-  pub fits : walk-fits class e owed least m (chain fuel e at) ≡ walk-fits class e owed 0 m₀ ss
-  pub number : count + length (chain fuel e at) ≡ length ss
-  pub marks : mark-each m (chain fuel e at) ≡ mark-each m₀ ss
+  pub rest : walked class e owed least count m (chain fuel e at) ≡ walked class e owed 0 0 m₀ ss
 
 -- What an accepted slot says.
 pub record Slot (class : Class) (e : List ℕ) (owed least s : ℕ) (m : List ℕ) : Type 0 where
@@ -51,21 +48,16 @@ module _ {class : Class} {e : List ℕ} {owed : ℕ} {m₀ : List ℕ} where
     room = omega (arith, unmarked-le (slots-of e) m₀, f .low);
     len = refl;
     sum = omega arith;
-    fits = refl;
-    number = zero-add _;
-    marks = refl;
+    rest = refl;
   }
 
   module _ {ss m : List ℕ} {at least count : ℕ} (g : Going class e owed m₀ ss m at least count) where
-    here : at ≢ 0 → walk-fits class e owed least m (at ∷ chain (g .fuel - 1) e (next-of e at)) ≡ walk-fits class e owed 0 m₀ ss
-    here z = ap (λ (ts : List ℕ). walk-fits class e owed least m ts) (sym (chain-on (g .fuel) e at (omega (arith, g .room)) z)) ∙ g .fits
+    here : at ≢ 0 → walked class e owed least count m (at ∷ chain (g .fuel - 1) e (next-of e at)) ≡ walked class e owed 0 0 m₀ ss
+    here z = rw (chain-on (g .fuel) e at (omega (arith, g .room)) z) at (g .rest)
 
-    wrong : at ≢ 0 → slot-fits class e owed least at m ≡ false → false ≡ walk-fits class e owed 0 m₀ ss
-    unfolding walk-fits
-    wrong z q = rw q at (here z)
-
-    pub walk-fails : {m′ : List ℕ} → at ≢ 0 → slot-fits class e owed least at m ≡ false → Went class e owed ss m₀ m′ false 0
-    walk-fails z q = record { right = wrong z q; number = λ x. absurd (false≢true x); marks = λ x. absurd (false≢true x); sum = λ x. absurd (false≢true x) }
+    pub walk-fails : at ≢ 0 → slot-fits class e owed least at m ≡ false → stopped m ≡ walked class e owed 0 0 m₀ ss
+    unfolding walked
+    walk-fails z q = rw q at (here z)
 
     module _ (z : at ≢ 0) (room : slots-of e < 8 * length m₀) (q : slot-fits class e owed least at m ≡ true) where
       inside : at < 8 * length m
@@ -75,30 +67,16 @@ module _ {class : Class} {e : List ℕ} {owed : ℕ} {m₀ : List ℕ} where
       walk-less = let f = slot-facts q in unmarked-mark (slots-of e) m at inside z (f .inside) (f .blank)
 
       pub walk-goes : Going class e owed m₀ ss (with-mark m at) (next-of e at) (order-key e at + 1) (count + 1)
-      unfolding walk-fits mark-each
+      unfolding walked
       walk-goes =
-          let on = chain-on (g .fuel) e at (omega (arith, g .room)) z in
           record {
             fuel = g .fuel - 1;
             room = omega (arith, g .room, walk-less);
             len = length-with-mark m at ∙ g .len;
             sum = omega (arith, g .sum, walk-less);
-            fits = rw q at (here z);
-            number = omega (arith, g .number, ap (length {A = ℕ}) on);
-            marks = ap (λ (ts : List ℕ). mark-each m ts) (sym on) ∙ g .marks;
+            rest = rw q at (here z);
           }
 
-    module _ (z : at ≡ 0) where
-      right : true ≡ walk-fits class e owed 0 m₀ ss
-      unfolding walk-fits
-      right = ap (λ (ts : List ℕ). walk-fits class e owed least m ts) (sym (chain-end (g .fuel) e at z)) ∙ g .fits
-
-      marks : m ≡ mark-each m₀ ss
-      unfolding mark-each
-      marks = ap (λ (ts : List ℕ). mark-each m ts) (sym (chain-end (g .fuel) e at z)) ∙ g .marks
-
-      number : count ≡ length ss
-      number = omega (arith, g .number, ap (length {A = ℕ}) (chain-end (g .fuel) e at z))
-
-      pub walk-ends : Went class e owed ss m₀ m true count
-      walk-ends = record { right = right; number = λ x. number; marks = λ x. marks; sum = λ x. g .sum }
+    pub walk-ends : at ≡ 0 → record { answer = record { fits = true; count = count }; marks = m } ≡ walked class e owed 0 0 m₀ ss
+    unfolding walked
+    walk-ends z = rw (chain-end (g .fuel) e at z) at (g .rest)

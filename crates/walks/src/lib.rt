@@ -12,7 +12,7 @@ ghost use lib.ListN.{length};
 ghost use Rattle.tables.specs.Words.{slots-of};
 ghost use Rattle.tables.specs.Sound.{chain-from};
 ghost use Rattle.walks.specs.Slots.{Entries, slot-fits};
-ghost use Rattle.walks.specs.Walks.{Went};
+ghost use Rattle.walks.specs.Walks.{walked};
 
 // Whether a walk found only what may stand there, and how many slots it passed.
 pub struct Walked {
@@ -39,7 +39,7 @@ fn slot_fits(class: Class, e: &[u32], owed: u32, least: usize, s: usize, marks: 
 pub fn walk(class: Class, e: &[u32], head: usize, owed: u32, marks: &mut [u8]) -> Walked
     requires { ⌜ Entries (now e) ⌝ }
     requires { ⌜ slots-of (now e) < 8 * length (now marks) ⌝ }
-    ensures { λ r. ⌜ Went class (now (e .entry)) owed (chain-from (now (e .entry)) head) (now (marks .entry)) (now (marks .exit)) (r .fits) (r .count) ⌝ }
+    ensures { λ r. ⌜ record { answer = r; marks = now (marks .exit) } ≡ walked class (now (e .entry)) owed 0 0 (now (marks .entry)) (chain-from (now (e .entry)) head) ⌝ }
 {
     let mut at = head;
     let mut least = 0;

@@ -1,7 +1,8 @@
 -- `chains_check::chains_fit`: the words of slot 0 and the deepest owed, then the free chain, then the levels.
 use Rattle.chains_check.proofs.Levels.{chains-fail, chains-go}
-use Rattle.chains_check.specs.Levels.{chains-fit}
+use Rattle.chains_check.specs.Levels.{chains-checked}
 use Rattle.walks.proofs.Unmarked.{unmarked-le}
+use Rattle.walks.proofs.Passed.{walk-sum}
 use Rattle.tables.specs.Words.{slots-of}
 use borrow.Author.Tests.{not-true, not-false}
 use native.Mathlib.Omega.{arith}
@@ -15,14 +16,14 @@ shared-slice-read-if1 : tie.Need-shared-slice-read-if1
 shared-slice-read-if1 c = search needs
 
 returns : tie.Need-returns
-unfolding chains-fit
+unfolding chains-checked
 returns c = rw (unequal refl refl (c .if1 .taken))
 
 shared-slice-read-if2 : tie.Need-shared-slice-read-if2
 shared-slice-read-if2 c = search needs
 
 returns-2 : tie.Need-returns-2
-unfolding chains-fit
+unfolding chains-checked
 returns-2 c = rw (equal refl refl (c .before .before .if1 .left), unequal refl refl (c .if2 .taken))
 
 shared-slice-read-deepest : tie.Need-shared-slice-read-deepest
@@ -47,7 +48,7 @@ shared-slice-read-if3 : tie.Need-shared-slice-read-if3
 shared-slice-read-if3 c = search needs
 
 returns-3 : tie.Need-returns-3
-unfolding chains-fit
+unfolding chains-checked
 returns-3 c = rw (equal refl refl (c .before .before .before .before .before .if1 .left), equal refl refl (c .before .before .before .if2 .left), unequal refl refl (c .if3 .taken))
 
 shared-slice-read-walk : tie.Need-shared-slice-read-walk
@@ -63,16 +64,16 @@ same-length : tie.Need-same-length
 same-length c = search needs
 
 returns-4 : tie.Need-returns-4
-returns-4 c = chains-fail _ _ (c .before .before .before .before .before .before .before .before .before .before .before .before .if1 .left) (c .before .before .before .before .before .before .before .before .before .before .if2 .left) (c .before .before .before .before .before .before .before .if3 .left) (c .before .before .before .before .walk .ensures) (not-true _ (c .if4 .taken))
+returns-4 c = chains-fail _ _ _ (c .before .before .before .before .before .before .before .before .before .before .before .before .if1 .left) (c .before .before .before .before .before .before .before .before .before .before .if2 .left) (c .before .before .before .before .before .before .before .if3 .left) (c .before .before .before .before .walk .ensures) (not-true _ (c .if4 .taken))
 
 levels-fit-requires : tie.Need-levels-fit-requires
-levels-fit-requires c κs = (c .before .before .before .before .before .before .before .before .before .before .before .before .before .before .before .before .before .before .pre .0, (omega arith, (c .before .before .before .before .before .before .before .before .before .before .before .before .before .before .before .before .before .before .pre .1 .1 .0, (c .before .before .before .before .before .before .before .before .before .before .before .before .before .before .before .before .before .before .pre .1 .1 .1, omega (arith, c .before .before .before .before .before .walk .ensures .sum (not-false _ (c .before .if4 .left)), unmarked-le (slots-of (c .before .before .before .before .before .before .before .before .before .before .before .before .before .before .before .before .before .before .args .e .now)) (c .before .before .before .before .before .before .before .before .before .before .before .before .before .before .before .before .before .before .args .marks .now))))))
+levels-fit-requires c κs = (c .before .before .before .before .before .before .before .before .before .before .before .before .before .before .before .before .before .before .pre .0, (omega arith, (c .before .before .before .before .before .before .before .before .before .before .before .before .before .before .before .before .before .before .pre .1 .1 .0, (c .before .before .before .before .before .before .before .before .before .before .before .before .before .before .before .before .before .before .pre .1 .1 .1, omega (arith, walk-sum _ _ _ _ _ (omega arith) (c .before .before .before .before .before .walk .ensures) (not-false _ (c .before .if4 .left)), unmarked-le (slots-of (c .before .before .before .before .before .before .before .before .before .before .before .before .before .before .before .before .before .before .args .e .now)) (c .before .before .before .before .before .before .before .before .before .before .before .before .before .before .before .before .before .before .args .marks .now))))))
 
 same-length-2 : tie.Need-same-length-2
 same-length-2 c = search needs
 
 returns-5 : tie.Need-returns-5
-returns-5 c = c .before .before .levels-fit .ensures ∙ chains-go _ _ (c .before .before .before .before .before .before .before .before .before .before .before .before .before .before .before .before .if1 .left) (c .before .before .before .before .before .before .before .before .before .before .before .before .before .before .if2 .left) (c .before .before .before .before .before .before .before .before .before .before .before .if3 .left) (c .before .before .before .before .before .before .before .before .walk .ensures) (not-false _ (c .before .before .before .before .if4 .left))
+returns-5 c = c .before .before .levels-fit .ensures ∙ chains-go _ _ _ (c .before .before .before .before .before .before .before .before .before .before .before .before .before .before .before .before .if1 .left) (c .before .before .before .before .before .before .before .before .before .before .before .before .before .before .if2 .left) (c .before .before .before .before .before .before .before .before .before .before .before .if3 .left) (c .before .before .before .before .before .before .before .before .walk .ensures) (not-false _ (c .before .before .before .before .if4 .left))
 
 pub chains-fit-spec : {M : Type 1} → statement M
 chains-fit-spec =

@@ -1,5 +1,5 @@
 -- `chains_check::levels_fit`: the invariant says what the levels left have to say of all of them.
-use Rattle.chains_check.proofs.Levels.{Levels, levels-start, levels-end, levels-fail, levels-go}
+use Rattle.chains_check.proofs.Levels.{Levels, level-sum, levels-start, levels-end, levels-fail, levels-go}
 use Prim.Native.Nat.{_+_, _-_}
 use borrow.Author.Tests.{not-true, not-false}
 use borrow.Author.Needs.{needs}
@@ -32,7 +32,7 @@ returns : tie.Need-returns Inv-loop μ-loop
 returns c = levels-fail (c .before .before .before .before .before .before .before .loop .inv) (omega (arith, c .before .before .before .before .before .before .loop-test .taken)) (c .before .before .before .before .level .ensures) (not-true _ (c .if1 .taken))
 
 add-total : tie.Need-add-total Inv-loop μ-loop
-add-total c = omega (arith, c .before .before .before .before .before .before .before .before .loop .inv .sum, c .before .before .before .before .before .level .ensures .sum (not-false _ (c .before .if1 .left)), c .before .before .before .before .before .before .before .before .before .before .before .before .before .pre .1 .1 .1 .1)
+add-total c = omega (arith, c .before .before .before .before .before .before .before .before .loop .inv .sum, level-sum _ _ _ _ (omega (arith, c .before .before .before .before .before .before .before .before .loop .inv .len)) (c .before .before .before .before .before .level .ensures) (not-false _ (c .before .if1 .left)), c .before .before .before .before .before .before .before .before .before .before .before .before .before .pre .1 .1 .1 .1)
 
 add-i : tie.Need-add-i Inv-loop μ-loop
 add-i c = omega (arith, c .before .before .before .before .before .before .before .before .loop .inv .upto, c .before .before .before .before .before .before .before .before .before .before .before .before .before .pre .1 .1 .0)
@@ -41,7 +41,7 @@ loop-less : tie.Need-loop-less Inv-loop μ-loop
 loop-less c = omega (arith, c .before .before .before .before .before .before .before .loop-test .taken)
 
 loop-again : tie.Need-loop-again Inv-loop μ-loop
-loop-again c = levels-go (c .before .before .before .before .before .before .before .before .loop .inv) (omega (arith, c .before .before .before .before .before .before .before .loop-test .taken)) (c .before .before .before .before .before .level .ensures) (not-false _ (c .before .if1 .left)) (search needs)
+loop-again c = levels-go (c .before .before .before .before .before .before .before .before .loop .inv) (omega (arith, c .before .before .before .before .before .before .before .loop-test .taken)) (c .before .before .before .before .before .level .ensures) (not-false _ (c .before .if1 .left)) (omega (arith, c .before .before .before .before .before .before .before .before .loop .inv .len)) (search needs)
 
 slot-count-requires : tie.Need-slot-count-requires Inv-loop μ-loop
 slot-count-requires c κs = search needs

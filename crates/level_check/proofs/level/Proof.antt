@@ -1,7 +1,5 @@
 -- `level_check::level`: two walks and the numbers, by what the walks answer.
-use Rattle.level_check.proofs.Levels.{points-fail, ranges-fail, level-sum, level-ends}
-use Rattle.walks.proofs.Unmarked.{unmarked-le}
-use Rattle.tables.specs.Words.{slots-of}
+use Rattle.level_check.proofs.Levels.{points-fail, ranges-fail, level-room, level-ends}
 use Prim.Native.Nat.{_+_, _*_}
 use borrow.Author.Tests.{not-true, not-false}
 use native.Mathlib.Omega.{arith}
@@ -40,7 +38,7 @@ same-length : tie.Need-same-length
 same-length c = search needs
 
 returns : tie.Need-returns
-returns c = points-fail _ _ (c .before .before .before .before .walk .ensures) (not-true _ (c .if1 .taken))
+returns c = points-fail _ _ _ _ (c .before .before .before .before .walk .ensures) (not-true _ (c .if1 .taken))
 
 add-walk : tie.Need-add-walk
 add-walk c = search needs
@@ -61,10 +59,10 @@ same-length-2 : tie.Need-same-length-2
 same-length-2 c = search needs
 
 returns-2 : tie.Need-returns-2
-returns-2 c = ranges-fail _ _ (c .before .before .before .before .before .before .before .before .before .before .before .walk .ensures) (c .before .before .before .before .walk2 .ensures) (not-false _ (c .before .before .before .before .before .before .before .if1 .left)) (not-true _ (c .if2 .taken))
+returns-2 c = ranges-fail _ _ _ _ (c .before .before .before .before .before .before .before .before .before .before .before .walk .ensures) (c .before .before .before .before .walk2 .ensures) (not-false _ (c .before .before .before .before .before .before .before .if1 .left)) (not-true _ (c .if2 .taken))
 
 add-count : tie.Need-add-count
-add-count c = omega (arith, level-sum (c .before .before .before .before .before .before .before .before .before .before .before .before .before .before .before .before .before .before .before .before .args .l .now) (c .before .before .before .before .before .before .before .before .before .before .before .before .before .before .before .before .before .before .before .before .args .i) (c .before .before .before .before .before .before .before .before .before .before .before .before .before .walk .ensures) (c .before .before .before .before .before .before .walk2 .ensures) (not-false _ (c .before .before .before .before .before .before .before .before .before .if1 .left)) (not-false _ (c .before .before .if2 .left)), unmarked-le (slots-of (c .before .before .before .before .before .before .before .before .before .before .before .before .before .before .before .before .before .before .before .before .args .e .now)) (c .before .before .before .before .before .before .before .before .before .before .before .before .before .before .before .before .before .before .before .before .args .marks .now))
+add-count c = omega (arith, level-room _ (c .before .before .before .before .before .before .before .before .before .before .before .before .before .before .before .before .before .before .before .before .args .l .now) (c .before .before .before .before .before .before .before .before .before .before .before .before .before .before .before .before .before .before .before .before .args .i) _ (c .before .before .before .before .before .before .before .before .before .before .before .before .before .walk .ensures) (c .before .before .before .before .before .before .walk2 .ensures) (not-false _ (c .before .before .before .before .before .before .before .before .before .if1 .left)) (omega arith) (omega arith) (not-false _ (c .before .before .if2 .left)))
 
 numbers-fit-requires : tie.Need-numbers-fit-requires
 numbers-fit-requires c κs = search needs
@@ -73,7 +71,7 @@ same-length-3 : tie.Need-same-length-3
 same-length-3 c = search needs
 
 returns-3 : tie.Need-returns-3
-returns-3 c = level-ends _ _ (c .before .before .before .before .before .before .before .before .before .before .before .before .before .before .walk .ensures) (c .before .before .before .before .before .before .before .walk2 .ensures) (not-false _ (c .before .before .before .before .before .before .before .before .before .before .if1 .left)) (not-false _ (c .before .before .before .if2 .left)) (c .numbers-fit .ensures)
+returns-3 c = level-ends _ _ _ _ (c .before .before .before .before .before .before .before .before .before .before .before .before .before .before .walk .ensures) (c .before .before .before .before .before .before .before .walk2 .ensures) (not-false _ (c .before .before .before .before .before .before .before .before .before .before .if1 .left)) (not-false _ (c .before .before .before .if2 .left)) (c .numbers-fit .ensures)
 
 pub level-spec : {M : Type 1} → statement M
 level-spec =

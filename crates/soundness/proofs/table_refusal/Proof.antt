@@ -2,6 +2,7 @@
 use Rattle.soundness.proofs.Answer.{answer-1, answer-2, answer-3, answer-0}
 use Rattle.tables.proofs.Lengths.{entries-facts, table-facts, deepest-high}
 use Rattle.soundness.proofs.Tables.{entries-known}
+use borrow.Author.Tests.{not-true, not-false}
 use native.Mathlib.Omega.{arith}
 use Rattle.lists.proofs.Branches.{fails, holds}
 use borrow.Author.Needs.{needs}
@@ -27,10 +28,10 @@ chains-fit-requires : tie.Need-chains-fit-requires
 chains-fit-requires c κs = let a = holds (c .before .before .before .before .entries-fit .ensures) (c .before .before .before .if1 .left) in let b = holds (c .before .before .level-table-fits .ensures) (c .before .if2 .left) in let f = entries-facts _ a in (entries-known _ a, (omega arith, (deepest-high _ b, table-facts _ b .number)))
 
 returns-3 : tie.Need-returns-3
-returns-3 c = let a = holds (c .before .before .before .before .before .before .before .entries-fit .ensures) (c .before .before .before .before .before .before .if1 .left) in let f = entries-facts _ a in answer-3 _ _ 8192 (omega arith) a (holds (c .before .before .before .before .before .level-table-fits .ensures) (c .before .before .before .before .if2 .left)) (fails (c .before .before .chains-fit .ensures) (c .if3 .taken))
+returns-3 c = let a = holds (c .before .before .before .before .before .before .before .entries-fit .ensures) (c .before .before .before .before .before .before .if1 .left) in let f = entries-facts _ a in answer-3 _ _ 8192 (omega arith) a (holds (c .before .before .before .before .before .level-table-fits .ensures) (c .before .before .before .before .if2 .left)) (c .before .before .chains-fit .ensures) (not-true _ (c .if3 .taken))
 
 returns-4 : tie.Need-returns-4
-returns-4 c = let a = holds (c .before .before .before .before .before .before .before .entries-fit .ensures) (c .before .before .before .before .before .before .if1 .left) in let f = entries-facts _ a in answer-0 _ _ 8192 (omega arith) a (holds (c .before .before .before .before .before .level-table-fits .ensures) (c .before .before .before .before .if2 .left)) (holds (c .before .before .chains-fit .ensures) (c .if3 .left))
+returns-4 c = let a = holds (c .before .before .before .before .before .before .before .entries-fit .ensures) (c .before .before .before .before .before .before .if1 .left) in let f = entries-facts _ a in answer-0 _ _ 8192 (omega arith) a (holds (c .before .before .before .before .before .level-table-fits .ensures) (c .before .before .before .before .if2 .left)) (c .before .before .chains-fit .ensures) (not-false _ (c .if3 .left))
 
 pub table-refusal-spec : {M : Type 1} → statement M
 table-refusal-spec =
