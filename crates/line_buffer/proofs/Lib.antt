@@ -1,2 +1,3 @@
--- Laws behind the code.
+-- Laws behind the code, and what its contracts determine.
 pub mod Steps
+pub mod Determined

@@ -1,47 +1,53 @@
 -- What the code does with one byte and with the end of a line, as the definitions have it.
-use mathlib.Core.Path.{_≡_, sym, ap, _∙_}
+use mathlib.Core.Path.{_≡_, refl, sym, ap, _∙_}
 use mathlib.Core.List.{List, [], _∷_, _++_, append-assoc}
-use Prim.Native.Nat.{ℕ, suc, _+_, _≤_, _<_}
+use Prim.Native.Nat.{ℕ, _+_, _≤_, _<_}
+use native.Mathlib.Numerals.{add-one}
 use native.Mathlib.Omega.{arith}
 use borrow.Author.Tests.{eq-eqb, ne-eqb}
-use lib.ListN.{length, take, drop, set, length-append}
-use lib.Seq.{take-at, take-all, set-split, length-take-le}
+use lib.ListN.{length, take, drop, set, length-append, take-append-drop, drop-of-length-le}
+use lib.Seq.{take-at, take-all, take-suc-set, drop-at, drop-drop, drop-set-lt, length-take-le}
 use Rattle.lines.specs.Lines.{line-of}
 use Rattle.prints.specs.Texts.{numbers-text, overwrite}
 use Rattle.prints.proofs.Digits.{length-numbers}
 use Rattle.prints.proofs.Overwrites.{Printed}
 use Rattle.memory.specs.declared.Turn.{Turn}
-use Rattle.memory.specs.Memory.{Stepped}
 use Rattle.script.specs.Script.{line-step}
 use Rattle.memory.specs.Coded.{memory, stepped}
 use Rattle.line_buffer.specs.declared.Progress.{Progress}
-use Rattle.line_buffer.specs.Bytes.{Standing, text-of, kept, ended, taken}
+use Rattle.line_buffer.specs.Bytes.{Standing, kept, ended, taken}
 use Rattle.line_buffer.specs.Room.{size-of, standing}
 
-length-one-more : (line : List ℕ) (byte : ℕ) → length (line ++ (byte ∷ [])) ≡ length line + 1
-length-one-more line byte = length-append line (byte ∷ [])
+-- A byte came to the room of a line, of which so many bytes were kept.
+abbrev pub Keeps : List ℕ → ℕ → ℕ → List ℕ → ℕ → Type 0
+Keeps line count byte line' count' = (take count' line' ≡ kept (take count line) byte) × (drop count' line' ≡ drop 1 (drop count line))
 
 -- A line that fills its room keeps no more.
-pub keep-none : (line : List ℕ) (byte : ℕ) → length line ≡ 64 → take 64 line ≡ kept (take 64 line) byte
-keep-none line byte room = rw (take-all 64 line (omega arith)) (sym (take-at line (byte ∷ []) 64 room))
+pub keep-none : (line : List ℕ) (byte : ℕ) → length line ≡ 64 → Keeps line 64 byte line 64
+keep-none line byte room =
+    let past : drop 64 line ≡ [] = drop-of-length-le line {i = 64} (omega arith) in
+    (rw (take-all 64 line (omega arith)) (sym (take-at line (byte ∷ []) 64 room)), rw past)
 
 -- A line with room keeps a byte.
-pub keep-one : (line : List ℕ) (count byte : ℕ) → length line ≡ 64 → count < 64 → take (count + 1) (set line count byte) ≡ kept (take count line) byte
+pub keep-one : (line : List ℕ) (count byte : ℕ) → length line ≡ 64 → count < 64 → Keeps line count byte (set line count byte) (count + 1)
 keep-one line count byte room few =
-    let begun = take count line in
-    let long : length begun ≡ count = length-take-le count line (omega arith) in
-    let whole : length (begun ++ (byte ∷ [])) ≡ count + 1 = length-one-more begun byte ∙ ap (λ n. n + 1) long in
-    let split : set line count byte ≡ (begun ++ (byte ∷ [])) ++ drop (suc count) line = set-split line count byte (omega arith) ∙ sym (append-assoc begun (byte ∷ []) (drop (suc count) line)) in
-    rw (split, take-at (begun ++ (byte ∷ [])) (drop (suc count) line) (count + 1) whole) (sym (take-all 64 (begun ++ (byte ∷ [])) (omega arith)))
+    let short : length (take count line ++ (byte ∷ [])) ≤ 64 = omega (arith, length-append (take count line) (byte ∷ []), length-take-le count line (omega arith)) in (
+      rw (add-one count, take-suc-set line count byte (omega arith)) (sym (take-all 64 (take count line ++ (byte ∷ [])) short)),
+      drop-set-lt (count + 1) line count byte (omega arith) ∙ sym (drop-drop 1 count line),
+    )
 
--- A text that was printed waits after what waited before.
-pub waits : (output text : List ℕ) (at : ℕ) → at + length text ≤ length output → take (at + length text) (overwrite output at text) ≡ take at output ++ text
+-- A text waits after what waited before, and took the first bytes of the rest.
+abbrev pub Waits : List ℕ → ℕ → List ℕ → ℕ → List ℕ → Type 0
+Waits output at text end output' = (take end output' ≡ take at output ++ text) × (drop end output' ≡ drop (length text) (drop at output))
+
+pub waits : (output output' text : List ℕ) (at end : ℕ) → at + length text ≤ length output → Printed output at text end output' → Waits output at text end output'
 unfolding overwrite
-waits output text at room =
+waits output output' text at end room printed =
     let before = take at output in
     let after = drop (at + length text) output in
     let whole : length (before ++ text) ≡ at + length text = length-append before text ∙ ap (λ n. n + length text) (length-take-le at output (omega arith)) in
-    rw (sym (append-assoc before text after)) (take-at (before ++ text) after (at + length text) whole)
+    rw (printed .0, printed .1, sym (append-assoc before text after), take-at (before ++ text) after (at + length text) whole, drop-at (before ++ text) after (at + length text) whole)
+    (refl, sym (drop-drop (length text) at output))
 
 -- The progress after a line.
 abbrev pub after-line : Turn → ℕ → Progress
@@ -57,16 +63,15 @@ module _ (e l line output : List ℕ) (m : Progress) where
   ends e' l' output' turn waiting room told printed =
       let text = numbers-text (turn .first) (turn .second) (turn .third) in
       let few = length-numbers (turn .first) (turn .second) (turn .third) in
-      let shown : take waiting output' ≡ take (m .waiting) output ++ text = rw (printed .0, printed .1) (waits output text (m .waiting) (omega (arith, few))) in
-      let after : Stepped → Standing = λ r. record { memory = r .memory; line = []; waiting = take (m .waiting) output ++ text-of (r .printed) } in
-      ap (λ w. record { memory = memory e' l' (size-of (after-line turn waiting)); line = []; waiting = w }) shown ∙ ap after told
+      let shown = waits output output' text (m .waiting) waiting (omega (arith, few)) printed in
+      rw (shown .0, shown .1, ← told, take-append-drop (m .length) line)
 
   -- A line feed, and another byte.
   pub takes-end : (byte : ℕ) (s : Standing) → byte ≡ 10 → s ≡ ended (standing e l line output m) → s ≡ taken byte (standing e l line output m)
   unfolding taken
   takes-end byte s is ends = rw (eq-eqb byte 10 is) ends
 
-  pub takes-byte : (byte count : ℕ) (line' : List ℕ) → (byte ≡ 10 → ⊥) → take count line' ≡ kept (take (m .length) line) byte
+  pub takes-byte : (byte count : ℕ) (line' : List ℕ) → (byte ≡ 10 → ⊥) → Keeps line (m .length) byte line' count
       → standing e l line' output (record { slots = m .slots; deepest = m .deepest; length = count; waiting = m .waiting }) ≡ taken byte (standing e l line output m)
   unfolding taken
-  takes-byte byte count line' other is = rw (ne-eqb byte 10 other) (ap (λ x. record { memory = memory e l (size-of m); line = x; waiting = take (m .waiting) output }) is)
+  takes-byte byte count line' other keeps = rw (ne-eqb byte 10 other, keeps .0, keeps .1)

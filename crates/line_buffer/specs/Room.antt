@@ -2,7 +2,7 @@
 use mathlib.Core.Path.{_≡_}
 use mathlib.Core.List.{List}
 use Prim.Native.Nat.{ℕ, _≤_}
-use lib.ListN.{length, take}
+use lib.ListN.{length, take, drop}
 use Rattle.memory.specs.declared.Size.{Size}
 use Rattle.memory.specs.Coded.{Fits, memory}
 use Rattle.line_buffer.specs.declared.Progress.{Progress}
@@ -18,4 +18,10 @@ pub record Ready (e l line : List ℕ) (m : Progress) : Type 0 where
   pub within : m .length ≤ 64
 
 abbrev pub standing : List ℕ → List ℕ → List ℕ → List ℕ → Progress → Standing
-standing e l line output m = record { memory = memory e l (size-of m); line = take (m .length) line; waiting = take (m .waiting) output }
+standing e l line output m = record {
+  memory = memory e l (size-of m);
+  line = take (m .length) line;
+  line-rest = drop (m .length) line;
+  waiting = take (m .waiting) output;
+  output-rest = drop (m .waiting) output;
+}

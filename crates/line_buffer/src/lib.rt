@@ -4,7 +4,7 @@ use prints::print_numbers;
 use script::run_line;
 ghost use mathlib.Core.Path.{_≡_};
 ghost use Prim.Native.Nat.{_+_, _≤_};
-ghost use lib.ListN.{length, take};
+ghost use lib.ListN.{length, take, drop};
 ghost use Rattle.line_buffer.specs.Bytes.{kept, taken, ended};
 ghost use Rattle.line_buffer.specs.Room.{Ready, standing};
 
@@ -82,6 +82,7 @@ fn keep_byte(byte: u8, line: &mut [u8], count: usize) -> usize
     requires { ⌜ count ≤ 64 ⌝ }
     ensures { λ r. ⌜ r ≤ 64 ⌝ }
     ensures { λ r. ⌜ take r (now (line .exit)) ≡ kept (take count (now (line .entry))) byte ⌝ }
+    ensures { λ r. ⌜ drop r (now (line .exit)) ≡ drop 1 (drop count (now (line .entry))) ⌝ }
 {
     if count == LINE_ROOM {
         return count;

@@ -5,12 +5,12 @@ use Prim.Native.Nat.{ℕ, _+_, _*_, _≤_, _<_}
 use native.Mathlib.Numerals.{add-one}
 use native.Mathlib.Omega.{arith}
 use borrow.Author.Tests.{ne-eqb}
-use lib.ListN.{length, getD, drop, drop-of-length-le}
+use lib.ListN.{length, getD, drop, drop-of-length-le, take-append-drop}
 use lib.Seq.{drop-cons, length-take-le}
 use Rattle.line_buffer.specs.declared.Progress.{Progress}
 use Rattle.line_buffer.specs.Bytes.{Standing, ended, taken}
 use Rattle.line_buffer.specs.Room.{Ready, standing}
-use Rattle.stream.specs.Blocks.{fed, finished}
+use Rattle.stream.specs.Blocks.{fed, finished, written}
 
 module _ (e l line output : List ℕ) (m : Progress) where
   -- The end of the input, within a line and after one.
@@ -21,6 +21,10 @@ module _ (e l line output : List ℕ) (m : Progress) where
   pub finishes-line : (s : Standing) → Ready e l line m → (m .length ≡ 0 → ⊥) → s ≡ ended (standing e l line output m) → s ≡ finished (standing e l line output m)
   unfolding finished
   finishes-line s ready some ends = rw (length-take-le (m .length) line (omega (arith, ready .within, ready .line-room)), ne-eqb (m .length) 0 some) ends
+
+  -- What waited was written out, and the script goes on in the same room with none that waits.
+  pub goes-on : standing e l line output (record { slots = m .slots; deepest = m .deepest; length = m .length; waiting = 0 }) ≡ written (standing e l line output m)
+  goes-on = rw (take-append-drop (m .waiting) output)
 
 -- Between two bytes of a block: the bytes that are left lead from where the script stands to where the block leads.
 pub record Between (block : List ℕ) (room : ℕ) (m₀ : Progress) (goal : Standing) (e l line output : List ℕ) (m : Progress) (i : ℕ) : Type 0 where

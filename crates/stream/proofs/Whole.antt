@@ -109,11 +109,11 @@ unfolding writes flatten lines-in
 blocks-write [] s line is = finish-writes s line is
 blocks-write (block ∷ blocks) s line is = block-writes blocks (blocks-write blocks) block s line is
 
--- Nothing was read yet.
-abbrev pub begun : Memory → Standing
-begun m = record { memory = m; line = []; waiting = [] }
+-- Nothing was read yet, whatever the room for a line and the room for the output hold.
+abbrev pub begun : Memory → List ℕ → List ℕ → Standing
+begun m line output = record { memory = m; line = []; line-rest = line; waiting = []; output-rest = output }
 
 -- For every input in whatever blocks: what the program writes out is what the input's lines print.
-pub writes-as-lines : (m : Memory) (blocks : List (List ℕ)) → writes blocks (begun m) ≡ output-of m (lines-in (flatten blocks))
+pub writes-as-lines : (m : Memory) (line output : List ℕ) (blocks : List (List ℕ)) → writes blocks (begun m line output) ≡ output-of m (lines-in (flatten blocks))
 unfolding begun-line
-writes-as-lines m blocks = blocks-write blocks (begun m) [] refl
+writes-as-lines m line output blocks = blocks-write blocks (begun m line output) [] refl

@@ -15,9 +15,9 @@ fed (byte ∷ rest) s = fed rest (taken byte s)
 unfoldable pub finished : Standing → Standing
 finished s = cond (eqb (length (s .line)) 0) s (ended s)
 
--- What waited was written out.
+-- What waited was written out: none waits, and all of the output's room is the rest.
 abbrev pub written : Standing → Standing
-written s = record { memory = s .memory; line = s .line; waiting = [] }
+written s = record { memory = s .memory; line = s .line; line-rest = s .line-rest; waiting = []; output-rest = s .waiting ++ s .output-rest }
 
 -- What the program writes out: what waits after each block, and what waits at the end.
 unfoldable pub writes : List (List ℕ) → Standing → List ℕ
