@@ -1,10 +1,11 @@
 -- Levels worked on one after the other: a step for each level, and the merges of the steps added up.
 use mathlib.Core.Path.{_≡_, refl, sym, ap, _∙_}
 use mathlib.Core.List.{List}
-use Prim.Native.Nat.{ℕ, zero, suc, _+_, _-_, _<_, _≤_}
+use Prim.Native.Nat.{ℕ, _+_, _-_, _<_, _≤_}
 use native.Mathlib.Omega.{arith}
-use native.Mathlib.Numerals.{add-one, sub-one}
+use native.Mathlib.Numerals.{add-one}
 use Rattle.lists.specs.Lists.{iterate}
+use Rattle.lists.proofs.Loops.{iterate-end, iterate-next}
 use Rattle.model.specs.Records.{State}
 use Rattle.model.specs.Steps.{Work, begin, merge-state, merge-level, merge-all}
 use Rattle.model.proofs.Counted.{add, merge-level-adds}
@@ -29,16 +30,6 @@ step-after : (step : Step) → Counts step → (i : ℕ) (w : Work ℕ ℕ) → 
 step-after step counts i w =
     let none : w .merges + 0 ≡ w .merges = omega arith in
     ap (λ (m : ℕ). step i (record { state = w .state; merges = m })) (sym none) ∙ counts .adds (w .merges) i (begin (w .state))
-
-module _ {X : Type 0} (step : ℕ → X → X) where
-  iterate-more : (n i : ℕ) (x : X) → 0 < n → iterate step i n x ≡ iterate step (i + 1) (n - 1) (step i x)
-  unfolding iterate
-  iterate-more zero i x h = absurd (omega arith)
-  iterate-more (suc n) i x h = rw (add-one, sub-one)
-
-  iterate-none : (n i : ℕ) (x : X) → n ≡ 0 → iterate step i n x ≡ x
-  unfolding iterate
-  iterate-none n i x q = rw q
 
 -- Before level i: the tables hold a work from which the steps from i to L−1 lead to the goal.
 pub record Reached (step : Step) (goal : Work ℕ ℕ) (g : Store) (e l : List ℕ) (merges i : ℕ) : Type 0 where
@@ -72,13 +63,11 @@ module _ {step : Step} {goal : Work ℕ ℕ} {g : Store} {e l : List ℕ} {merge
           settings = ap (λ (x : Work ℕ ℕ). x .state .settings) after ∙ counts .settings i (w .work .state) ∙ w .settings;
           few = few-more;
           here = omega arith;
-          leads =
-              ap (λ k. iterate step (i + 1) k (step i (w .work))) (omega arith)
-              ∙ sym (iterate-more step (g .state .settings .deepest - i) i (w .work) (omega arith)) ∙ w .leads;
+          leads = sym (iterate-next step (g .state .settings .deepest) i (w .work) (i + 1) h (add-one i)) ∙ w .leads;
         }
 
   pub reached-end : Reached step goal g e l merges i → g .state .settings .deepest ≤ i → Worked g goal e l merges
-  reached-end w h = rw (sym (w .leads) ∙ iterate-none step (g .state .settings .deepest - i) i (w .work) (omega arith)) (w .worked)
+  reached-end w h = rw (sym (w .leads) ∙ iterate-end step (g .state .settings .deepest) i (w .work) h) (w .worked)
 
 -- "levels 0 to L−1 are first merged in order"
 pub merge-all-begun : (g : Store) (e l : List ℕ) → Laid g e l → Reached merge-level (merge-all (g .state)) g e l 0 0

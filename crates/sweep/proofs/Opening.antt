@@ -1,7 +1,7 @@
 -- A sweep that sets out: its heads are those of the levels from lo on, and it has to come what the tables read as from there on.
 use mathlib.Core.Path.{_≡_, refl, sym, ap, _∙_}
 use mathlib.Core.List.{List}
-use Prim.Native.Nat.{ℕ, zero, suc, _+_, _-_, _<_, _≤_}
+use Prim.Native.Nat.{ℕ, zero, suc, _+_, _<_, _≤_}
 use native.Mathlib.Nat.{zero-add}
 use native.Mathlib.Numerals.{add-one}
 use native.Mathlib.Omega.{arith}
@@ -28,20 +28,6 @@ use Rattle.steps.specs.Sweeps.{levels-from, range-at, to-come, Sweeping, rest}
 use Rattle.steps.proofs.Live.{live-same}
 use Rattle.steps.proofs.Coming.{beginning-says, looks-same, decides-same}
 use Rattle.sweep.specs.Sweeps.{front-at, opened-heads, opened-ranges, opened}
-
--- Each turn of a loop over the numbers before n, and its end.
-module _ {X : Type 0} (step : ℕ → X → X) (n i : ℕ) (x : X) where
-  pub iterate-end : n ≤ i → iterate step i (n - i) x ≡ x
-  unfolding iterate
-  iterate-end le =
-      let none : n - i ≡ 0 = omega arith in
-      rw none
-
-  pub iterate-next : (j : ℕ) → i < n → j ≡ suc i → iterate step i (n - i) x ≡ iterate step j (n - j) (step i x)
-  unfolding iterate
-  iterate-next j lt next =
-      let some : n - i ≡ suc (n - suc i) = omega arith in
-      rw (some, next)
 
 module _ {e l : List ℕ} (readable : Readable e l) (lo : ℕ) where
   abbrev n : ℕ

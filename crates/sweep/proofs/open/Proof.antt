@@ -7,10 +7,11 @@ use native.Mathlib.Omega.{arith}
 use borrow.Author.Needs.{needs}
 use lib.ListN.{length, getD, set, length-set}
 use Rattle.lists.specs.Lists.{iterate}
+use Rattle.lists.proofs.Loops.{iterate-end, iterate-next}
 use Rattle.tables.specs.Words.{settings-of, level-row}
 use Rattle.heads.specs.Heads.{head-at, pushed}
 use Rattle.sweep.specs.Sweeps.{front-at, opened-heads, opened-ranges}
-use Rattle.sweep.proofs.Opening.{iterate-end, iterate-next, front-is-ordered, front-small}
+use Rattle.sweep.proofs.Opening.{front-is-ordered, front-small}
 use Rattle.sweep.proofs.open.Statement.{statement}
 use Rattle.sweep.proofs.open.Tie as tie
 
