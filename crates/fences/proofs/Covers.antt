@@ -6,12 +6,12 @@ use mathlib.Core.List.{List, [], _∷_}
 use Prim.Native.Nat.{ℕ, zero, suc, _+_, _<_, _≤_, min}
 use native.Mathlib.Omega.{arith}
 use native.Mathlib.Decide.{ℕ-discrete}
-use borrow.Author.Tests.{le-ltb, lt-ltb, leb-true, leb-false, ltb-true, ltb-false}
+use borrow.Author.Tests.{le-ltb, leb-true, leb-false, ltb-true, ltb-false}
 use lib.Dec.{leb, ltb}
 use lib.ListN.{length, getD, set, length-set}
 use lib.Seq.{getD-set-same, getD-set-other}
 use Rattle.lists.proofs.Bools.{cond-elim, by-cases, or-left, or-right, or-false-intro}
-use Rattle.tables.specs.Words.{hi-of, lo-of}
+use Rattle.tables.specs.Words.{hi-of}
 use Rattle.tables.specs.Sound.{chain-from}
 use Rattle.covers.specs.Walks.{Ordered}
 use Rattle.covers.specs.Skips.{first-slot, drop-while, reaching}

@@ -1,17 +1,17 @@
 -- Each level of a survey, and its end; its chains stay ordered.
-use mathlib.Core.Path.{_≡_, refl}
+use mathlib.Core.Path.{_≡_}
 use mathlib.Core.List.{List}
 use Prim.Native.Nat.{ℕ, suc, _+_, _-_, _<_, _≤_, min}
 use native.Mathlib.Omega.{arith}
 use native.Mathlib.Decide.{ℕ-discrete}
 use borrow.Author.Tests.{le-leb, lt-leb}
-use lib.ListN.{length, getD, set, length-set}
+use lib.ListN.{getD, set, length-set}
 use lib.Seq.{getD-set-same, getD-set-other}
 use Rattle.tables.specs.Words.{hi-of}
 use Rattle.covers.specs.Walks.{Ordered}
 use Rattle.covers.proofs.Skips.{front-ordered}
 use Rattle.heads.specs.Heads.{key-from}
-use Rattle.fences.specs.Fences.{Ready, View, range-front, surveyed}
+use Rattle.fences.specs.Fences.{Ready, range-front, surveyed}
 
 module _ (e : List ℕ) (k n i : ℕ) (ranges : List ℕ) (fence : ℕ) where
   pub survey-end : n ≤ i → surveyed e k (n - i) i ranges fence ≡ record { ranges = ranges; cover = record { level = i; fence = fence } }

@@ -4,7 +4,7 @@ use heads::key_at;
 use rows::hi_of;
 ghost use mathlib.Core.Path.{_≡_};
 ghost use Prim.Native.Nat.{_≤_, min};
-ghost use Rattle.fences.specs.Fences.{Ready, View, surveyed};
+ghost use Rattle.fences.specs.Fences.{Ready, surveyed};
 
 // Past the last docket.
 const NO_FENCE: u32 = 65536;
@@ -36,7 +36,10 @@ pub fn survey(e: &[u32], ranges: &mut [usize], levels: usize, docket: u32) -> Co
         fence = lesser(fence, lo);
         i += 1;
     }
-    Cover { level: i, fence: fence }
+    Cover {
+        level: i,
+        fence: fence,
+    }
 }
 
 fn lesser(a: u32, b: u32) -> u32

@@ -1,20 +1,20 @@
 -- The heads of levels, pushed one after the other from level 0 on: what is not yet pushed stands blank behind them.
 use mathlib.Core.Path.{_≡_, refl, sym, ap, _∙_, subst}
-use mathlib.Core.Bool.{true, false, cond}
+use mathlib.Core.Bool.{cond}
 use mathlib.Core.List.{List, [], _∷_, _++_}
-use Prim.Native.Nat.{ℕ, zero, suc, _+_, _-_, _*_, _<_, _≤_, min, max}
+use Prim.Native.Nat.{ℕ, zero, suc, _+_, _-_, _<_, _≤_, min, max}
 use native.Mathlib.Omega.{arith}
-use borrow.Author.Tests.{eqb-true, eqb-false, eq-eqb, ne-eqb, ltb-true, ltb-false, lt-ltb, le-ltb}
+use borrow.Author.Tests.{eqb-true, eqb-false, ne-eqb, ltb-true, ltb-false, lt-ltb, le-ltb}
 use lib.Dec.{eqb, ltb}
-use lib.ListN.{length, replicate}
+use lib.ListN.{replicate}
 use Rattle.lists.specs.Lists.{sum}
 use Rattle.lists.specs.All.{All}
-use Rattle.lists.proofs.Bools.{by-cases, cond-elim}
+use Rattle.lists.proofs.Bools.{by-cases}
 use Rattle.lists.proofs.Tests.{all-append}
 use Rattle.lists.proofs.Counting.{sum-append, sum-zeros}
 use Rattle.covers.specs.Walks.{Ordered}
 use Rattle.heads.specs.declared.Heads.{Heads}
-use Rattle.heads.specs.Heads.{key-from, head-at, level-of, slot-of, insert, others, heads-of, pushed, no-head, blank, point-in, times-in, point, Head, Rising, Fits}
+use Rattle.heads.specs.Heads.{head-at, level-of, slot-of, insert, others, heads-of, pushed, no-head, blank, point-in, times-in, point, Head, Rising, Fits}
 use Rattle.heads.proofs.Packs.{key-bound, key-none, head-level, head-slot}
 use Rattle.heads.proofs.Inserts.{sum-insert, all-insert, rising-insert}
 use Rattle.heads.proofs.Passing.{none-ordered}

@@ -1,9 +1,9 @@
 -- The first record of the heads is passed: the heads of the levels once more, and its level's point is the next one.
 use mathlib.Core.Path.{_≡_, refl, sym, ap, _∙_}
 use mathlib.Core.Logic.{_≢_}
-use mathlib.Core.Bool.{true, false, cond}
+use mathlib.Core.Bool.{cond}
 use mathlib.Core.List.{List, [], _∷_}
-use Prim.Native.Nat.{ℕ, _+_, _*_, _<_, _≤_}
+use Prim.Native.Nat.{ℕ, _+_, _<_, _≤_}
 use native.Mathlib.Omega.{arith}
 use borrow.Author.Tests.{eqb-true, ltb-true, ltb-false, eq-eqb}
 use lib.Dec.{eqb, ltb}
@@ -12,7 +12,7 @@ use Rattle.lists.specs.Lists.{sum}
 use Rattle.lists.specs.All.{All}
 use Rattle.lists.proofs.Bools.{by-cases, cond-elim}
 use Rattle.lists.proofs.Tests.{all-both}
-use Rattle.tables.specs.Words.{next-of, lo-of}
+use Rattle.tables.specs.Words.{next-of}
 use Rattle.tables.specs.Sound.{chain-from, ascend}
 use Rattle.covers.specs.Walks.{Ordered}
 use Rattle.covers.proofs.Chains.{On, Words, chain-end, go-on, shorter}

@@ -16,7 +16,6 @@ use Rattle.covers.specs.Walks.{Ordered}
 use Rattle.covers.specs.Skips.{drop-while, beginning}
 use Rattle.covers.proofs.Chains.{Words, go-on}
 use Rattle.covers.proofs.Walks.{ranges-say}
-use Rattle.level_lookup.specs.declared.Decided.{Decided}
 use Rattle.level_lookup.specs.declared.Decided.the-variants.{Deeper}
 use Rattle.level_lookup.specs.Answers.{settle, tells, decides, chain-level, level-decides}
 use Rattle.level_lookup.proofs.Answers.{find-decides, lookup-decides}

@@ -1,12 +1,11 @@
 -- A step of a sweep: what the least record to come says of its docket, and that passing it leaves what is to come of the others.
 use mathlib.Core.Path.{_≡_, refl, sym, ap, _∙_, subst}
 use mathlib.Core.Logic.{_≢_}
-use mathlib.Core.Bool.{Bool, true, false, cond}
+use mathlib.Core.Bool.{Bool, cond}
 use mathlib.Core.List.{List}
 use Prim.Native.Nat.{ℕ, suc, _+_, _<_, _≤_}
 use native.Mathlib.Omega.{arith}
-use native.Mathlib.Decide.{ℕ-discrete}
-use borrow.Author.Tests.{eq-eqb, ne-eqb, eqb-true, eqb-false, ltb-true, ltb-false, leb-true, leb-false}
+use borrow.Author.Tests.{ne-eqb, eqb-true, eqb-false, ltb-true, ltb-false, leb-true, leb-false}
 use lib.Dec.{eqb, ltb, leb}
 use Rattle.lists.proofs.Bools.{by-cases, cond-elim}
 use Rattle.model.specs.Lookup.{absent, reads, add-row, lookup, live}
@@ -19,7 +18,7 @@ use Rattle.heads.proofs.Packs.{key-on}
 use Rattle.heads.proofs.Passing.{points-least, points-later, slot-key, slot-on, level-inside, passed-fits, passed-later, passed-fewer, point-first, point-passed}
 use Rattle.fences.specs.Fences.{over}
 use Rattle.steps.specs.declared.Sweep.{Sweep}
-use Rattle.steps.specs.Sweeps.{levels-from, range-at, to-come, next-key, next-level, Sweeping, told, moved, gone, neared, rest, listed, Stepped}
+use Rattle.steps.specs.Sweeps.{range-at, to-come, next-key, next-level, Sweeping, told, moved, gone, neared, rest, listed, Stepped}
 use Rattle.steps.proofs.Branches.{gone-before, gone-covered, gone-delete, gone-found, neared-none, neared-fenced, neared-gone}
 use Rattle.steps.proofs.Live.{live-same, live-none, live-pass}
 use Rattle.steps.proofs.Coming.{points-before, absent-all, says-at, looks-same, decides-same}

@@ -1,7 +1,7 @@
 -- A search: it lists what was to come, it ends, and more steps than there are records change nothing.
 use mathlib.Core.Path.{_≡_, refl, sym, ap, _∙_, subst}
 use mathlib.Core.Logic.{_≢_}
-use mathlib.Core.Bool.{true, false, cond}
+use mathlib.Core.Bool.{cond}
 use mathlib.Core.List.{List}
 use Prim.Native.Nat.{ℕ, zero, suc, _<_, _≤_}
 use native.Mathlib.Omega.{arith}
@@ -11,7 +11,7 @@ use Rattle.lists.proofs.Bools.{by-cases, cond-elim}
 use Rattle.covers.proofs.Chains.{Words}
 use Rattle.heads.specs.Heads.{left}
 use Rattle.steps.specs.declared.Sweep.{Sweep}
-use Rattle.steps.specs.Sweeps.{Sweeping, standing, neared, rest, rows-from, listed, Stepped}
+use Rattle.steps.specs.Sweeps.{Sweeping, standing, neared, rest, rows-from, listed}
 use Rattle.steps.proofs.Steps.{told-sweeping, near-leads, steps-left, listed-same, fewer-steps}
 use Rattle.sweep.specs.Sweeps.{step-of, arrived, searched, advanced}
 use Rattle.sweep.proofs.Crossing.{step-stepped}

@@ -1,5 +1,5 @@
 -- A sweep that sets out: its heads are those of the levels from lo on, and it has to come what the tables read as from there on.
-use mathlib.Core.Path.{_≡_, refl, sym, ap, _∙_}
+use mathlib.Core.Path.{_≡_, refl, _∙_}
 use mathlib.Core.List.{List}
 use Prim.Native.Nat.{ℕ, zero, suc, _+_, _<_, _≤_}
 use native.Mathlib.Nat.{zero-add}
@@ -8,22 +8,18 @@ use native.Mathlib.Omega.{arith}
 use native.Mathlib.Decide.{ℕ-discrete}
 use lib.ListN.{length, getD, set, replicate, length-set, length-replicate}
 use lib.Seq.{getD-set-same, getD-set-other}
-use Rattle.lists.specs.Lists.{iterate}
 use Rattle.lists.proofs.Loops.{iterate-holds}
 use Rattle.model.specs.Lookup.{lookup, live}
 use Rattle.tables.specs.Words.{settings-of, level-row, lo-of}
 use Rattle.tables.specs.Sound.{chain-from}
 use Rattle.tables.specs.Placed.{read-levels, read-state}
 use Rattle.covers.specs.Walks.{Ordered}
-use Rattle.covers.specs.Skips.{drop-while, beginning}
 use Rattle.covers.proofs.Chains.{go-on}
 use Rattle.covers.proofs.Skips.{front-chain, front-ordered}
 use Rattle.level_lookup.specs.Readable.{Readable}
 use Rattle.level_lookup.proofs.Walks.{points-say}
-use Rattle.heads.specs.declared.Heads.{Heads}
 use Rattle.heads.specs.Heads.{head-at, pushed, blank, point}
 use Rattle.heads.proofs.Opening.{Opened, opened-none, opened-next, opened-fits, opened-point}
-use Rattle.fences.specs.Fences.{Ready}
 use Rattle.steps.specs.Sweeps.{levels-from, range-at, to-come, Sweeping, rest}
 use Rattle.steps.proofs.Live.{live-same}
 use Rattle.steps.proofs.Coming.{beginning-says, looks-same, decides-same}

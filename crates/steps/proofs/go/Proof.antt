@@ -1,5 +1,5 @@
 -- `steps::go` meets its contract: the record is passed, and each way out is a branch of the definition.
-use mathlib.Core.Path.{refl, sym, _∙_}
+use mathlib.Core.Path.{sym, _∙_}
 use native.Mathlib.Omega.{arith}
 use borrow.Author.Needs.{needs}
 use Rattle.heads.proofs.Passing.{slot-ordered, slot-some, slot-on}

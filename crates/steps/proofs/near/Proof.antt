@@ -1,6 +1,5 @@
 -- `steps::near` meets its contract: each way out is a branch of the definition.
-use mathlib.Core.Path.{refl, sym, _∙_}
-use native.Mathlib.Omega.{arith}
+use mathlib.Core.Path.{sym}
 use borrow.Author.Needs.{needs}
 use Rattle.steps.proofs.Branches.{neared-none, neared-fenced, neared-gone}
 use Rattle.steps.proofs.near.Statement.{statement}
