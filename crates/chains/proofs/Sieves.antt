@@ -17,7 +17,7 @@ use Rattle.tables.proofs.Cells.{cell-slots}
 use Rattle.links.specs.Links.{linked, released}
 use Rattle.chains.specs.Cells.{cell-at, last-slot}
 use Rattle.chains.specs.Held.{Held}
-use Rattle.chains.specs.Sifting.{Sift, Sifting, Sifts, cells-left, left-at, Chain, OneHeld, Sifted, sift-of}
+use Rattle.chains.specs.Sifting.{Sift, SiftAt, Sifting, Sifts, cells-left, left-at, Chain, OneHeld, Sifted, sift-of}
 use Rattle.chains.specs.declared.Cursor.{Cursor}
 use Rattle.chains.proofs.Cuts.{cut, linked-after}
 use Rattle.chains.proofs.Laws.{dropped, passed}
@@ -46,34 +46,11 @@ cursor-fits e m x =
     let w : Sifting g e m = x .has in
     let n : ℕ = g .slots in
     record {
-      at-in-table = omega (arith, w .at-is, place-in-table n (g .clock) (w .free) (w .done) (w .left) (g .others) e (w .held));
-      at-small = omega (arith, w .at-is, place-small n (g .clock) (w .free) (w .done) (w .left) (g .others) e (w .held));
-      prior-in-table = omega (arith, w .prior-is, prior-in-table n (g .clock) (w .free) (w .done) (w .left) (g .others) e (w .held));
-      few-gone = omega (arith, w .few, w .held .small);
+      at-in-table = omega (arith, w .here .at-is, place-in-table n (g .clock) (w .free) (w .done) (w .left) (g .others) e (w .here .held));
+      at-small = omega (arith, w .here .at-is, place-small n (g .clock) (w .free) (w .done) (w .left) (g .others) e (w .here .held));
+      prior-in-table = omega (arith, w .here .prior-is, prior-in-table n (g .clock) (w .free) (w .done) (w .left) (g .others) e (w .here .held));
+      few-gone = omega (arith, w .here .few, w .here .held .small);
     }
-
--- A sieve with these cells passed, these left and these slots free.
-pub record SiftAt (g : Sift) (e : List ℕ) (m : Cursor) (done left : List Cell) (free : List ℕ) : Type 0 where
-  pub held : Held (g .slots) (g .clock) free ((done ++ left) ∷ g .others) e
-  pub head-is : m .head ≡ head (done ++ left)
-  pub prior-is : m .prior ≡ last-slot done
-  pub at-is : m .at ≡ head left
-  pub keeps : done ++ reject (g .test) left ≡ g .kept
-  pub frees : release (cell-slots (select (g .test) left)) free ≡ g .free
-  pub counts : m .gone + length (select (g .test) left) ≡ g .gone
-  pub few : m .gone + length left ≤ g .slots
-
-pub sift-at : (g : Sift) (e : List ℕ) (m : Cursor) (w : Sifting g e m) → SiftAt g e m (w .done) (w .left) (w .free)
-sift-at g e m w = record {
-  held = w .held;
-  head-is = w .head-is;
-  prior-is = w .prior-is;
-  at-is = w .at-is;
-  keeps = w .keeps;
-  frees = w .frees;
-  counts = w .counts;
-  few = w .few;
-}
 
 -- What is left is what the table says from the cursor on.
 module _ (g : Sift) (e : List ℕ) (m : Cursor) (done left : List Cell) (free : List ℕ) (w : SiftAt g e m done left free) where
@@ -85,15 +62,15 @@ module _ (g : Sift) (e : List ℕ) (m : Cursor) (done left : List Cell) (free : 
 
 module _ (g : Sift) (e : List ℕ) (m : Cursor) (w : Sifting g e m) where
   left-reads : w .left ≡ cells-left e m
-  left-reads = sym (cells-left-is g e m (w .done) (w .left) (w .free) (sift-at g e m w))
+  left-reads = sym (cells-left-is g e m (w .done) (w .left) (w .free) (w .here))
 
   pub left-length : left-at e m ≡ length (w .left)
-  left-length = left-at-is g e m (w .done) (w .left) (w .free) (sift-at g e m w)
+  left-length = left-at-is g e m (w .done) (w .left) (w .free) (w .here)
 
   pub cursor-cell : (x : Cell) (xs : List Cell) → w .left ≡ x ∷ xs → cell-at e (m .at) ≡ x
   cursor-cell x xs l =
-      ap (cell-at e) (w .at-is ∙ ap head l)
-      ∙ place-cell (g .slots) (g .clock) (w .free) (w .done) x xs (g .others) e (subst (λ (cs : List Cell). Held (g .slots) (g .clock) (w .free) ((w .done ++ cs) ∷ g .others) e) l (w .held))
+      ap (cell-at e) (w .here .at-is ∙ ap head l)
+      ∙ place-cell (g .slots) (g .clock) (w .free) (w .done) x xs (g .others) e (subst (λ (cs : List Cell). Held (g .slots) (g .clock) (w .free) ((w .done ++ cs) ∷ g .others) e) l (w .here .held))
 
 -- All that was left is left after a step but the first.
 pub left-after : (g : Sift) (e e′ : List ℕ) (m m′ : Cursor) (w : Sifting g e m) (s : Sifts g e m e′ m′) → s .0 .left ≡ drop 1 (w .left)
@@ -102,19 +79,7 @@ left-after g e e′ m m′ w s = left-reads g e′ m′ (s .0) ∙ s .2 ∙ ap (
 stepped : (g : Sift) (e e′ : List ℕ) (m m′ : Cursor) (done done′ : List Cell) (x : Cell) (xs : List Cell) (free free′ : List ℕ)
     → SiftAt g e m done (x ∷ xs) free → SiftAt g e′ m′ done′ xs free′ → Sifts g e m e′ m′
 stepped g e e′ m m′ done done′ x xs free free′ w w′ = (
-  record {
-    done = done′;
-    left = xs;
-    free = free′;
-    held = w′ .held;
-    head-is = w′ .head-is;
-    prior-is = w′ .prior-is;
-    at-is = w′ .at-is;
-    keeps = w′ .keeps;
-    frees = w′ .frees;
-    counts = w′ .counts;
-    few = w′ .few;
-  },
+  record { done = done′; left = xs; free = free′; here = w′ },
   omega (arith, left-at-is g e m done (x ∷ xs) free w, left-at-is g e′ m′ done′ xs free′ w′),
   cells-left-is g e′ m′ done′ xs free′ w′ ∙ ap (drop 1) (sym (cells-left-is g e m done (x ∷ xs) free w)),
 )
@@ -194,14 +159,16 @@ module _ (t : Cell → Bool) (g : Chain) (e : List ℕ) where
     done = [];
     left = g .cells;
     free = g .free;
-    held = o .held;
-    head-is = o .head-is;
-    prior-is = refl;
-    at-is = o .head-is;
-    keeps = refl;
-    frees = refl;
-    counts = omega arith;
-    few = omega (arith, few-left (g .slots) (g .clock) (g .free) [] (g .cells) (g .others) e (o .held));
+    here = record {
+      held = o .held;
+      head-is = o .head-is;
+      prior-is = refl;
+      at-is = o .head-is;
+      keeps = refl;
+      frees = refl;
+      counts = omega arith;
+      few = omega (arith, few-left (g .slots) (g .clock) (g .free) [] (g .cells) (g .others) e (o .held));
+    };
   }
 
   ends : (m : Cursor) (done left : List Cell) (free : List ℕ) → SiftAt (sift-of t g) e m done left free → m .at ≡ 0 → Sifted t g e m
@@ -216,4 +183,4 @@ module _ (t : Cell → Bool) (g : Chain) (e : List ℕ) where
   }
 
   pub sifting-ends : (m : Cursor) → Sifting (sift-of t g) e m → m .at ≡ 0 → Sifted t g e m
-  sifting-ends m w = ends m (w .done) (w .left) (w .free) (sift-at (sift-of t g) e m w)
+  sifting-ends m w = ends m (w .done) (w .left) (w .free) (w .here)

@@ -13,9 +13,9 @@ use Rattle.tables.specs.Sound.{chain-from, order-key}
 use Rattle.tables.specs.Placed.{Cell, head}
 use Rattle.tables.proofs.Rows.{InTable}
 use Rattle.links.specs.Links.{linked}
-use Rattle.chains.specs.Cells.{cell-key, cell-before, last-slot}
+use Rattle.chains.specs.Cells.{cell-key, cell-before}
 use Rattle.chains.specs.Held.{Held}
-use Rattle.chains.specs.Splicing.{Chains, TwoHeld, Spliced, Splice, Splicing, to-do}
+use Rattle.chains.specs.Splicing.{Chains, TwoHeld, Spliced, Splice, SpliceAt, Splicing, to-do}
 use Rattle.chains.specs.declared.Pair.{Pair}
 use Rattle.chains.proofs.Cuts.{cut, linked-after}
 use Rattle.chains.proofs.Laws.{moved, passed, swapped, no-chain}
@@ -34,18 +34,6 @@ merge-upper x y xs ys h = rw (lt-ltb (cell-key x) (cell-key y) h)
 merge-lower : (x y : Cell) (xs ys : List Cell) → cell-key y ≤ cell-key x → merge cell-before (x ∷ xs) (y ∷ ys) ≡ y ∷ merge cell-before (x ∷ xs) ys
 unfolding merge
 merge-lower x y xs ys h = rw (le-ltb (cell-key x) (cell-key y) h)
-
--- A splice with these upper cells, these passed or placed, and these left of the lower chain.
-pub record SpliceAt (g : Splice) (e : List ℕ) (m : Pair) (upper done left : List Cell) : Type 0 where
-  pub held : Held (g .slots) (g .clock) (g .free) ((done ++ left) ∷ upper ∷ g .others) e
-  pub upper-is : m .upper ≡ head upper
-  pub head-is : m .head ≡ head (done ++ left)
-  pub prior-is : m .prior ≡ last-slot done
-  pub at-is : m .at ≡ head left
-  pub merges : done ++ merge cell-before upper left ≡ g .whole
-
-pub splice-at : (g : Splice) (e : List ℕ) (m : Pair) (w : Splicing g e m) → SpliceAt g e m (w .upper) (w .done) (w .left)
-splice-at g e m w = record { held = w .held; upper-is = w .upper-is; head-is = w .head-is; prior-is = w .prior-is; at-is = w .at-is; merges = w .merges }
 
 module _ (g : Splice) (e : List ℕ) (m : Pair) (upper done left : List Cell) (w : SpliceAt g e m upper done left) where
   upper-first : Held (g .slots) (g .clock) (g .free) (upper ∷ (done ++ left) ∷ g .others) e
@@ -73,13 +61,13 @@ pair-fits e m x =
     let w : Splicing g e m = x .has in
     let others : List (List Cell) = w .upper ∷ g .others in
     let lower : List (List Cell) = (w .done ++ w .left) ∷ g .others in
-    let first = upper-first g e m (w .upper) (w .done) (w .left) (splice-at g e m w) in
+    let first = upper-first g e m (w .upper) (w .done) (w .left) (w .here) in
     record {
-      upper-in-table = omega (arith, w .upper-is, place-in-table (g .slots) (g .clock) (g .free) [] (w .upper) lower e first);
-      upper-small = omega (arith, w .upper-is, place-small (g .slots) (g .clock) (g .free) [] (w .upper) lower e first);
-      at-in-table = omega (arith, w .at-is, place-in-table (g .slots) (g .clock) (g .free) (w .done) (w .left) others e (w .held));
-      at-small = omega (arith, w .at-is, place-small (g .slots) (g .clock) (g .free) (w .done) (w .left) others e (w .held));
-      before-in-table = omega (arith, w .prior-is, prior-in-table (g .slots) (g .clock) (g .free) (w .done) (w .left) others e (w .held));
+      upper-in-table = omega (arith, w .here .upper-is, place-in-table (g .slots) (g .clock) (g .free) [] (w .upper) lower e first);
+      upper-small = omega (arith, w .here .upper-is, place-small (g .slots) (g .clock) (g .free) [] (w .upper) lower e first);
+      at-in-table = omega (arith, w .here .at-is, place-in-table (g .slots) (g .clock) (g .free) (w .done) (w .left) others e (w .here .held));
+      at-small = omega (arith, w .here .at-is, place-small (g .slots) (g .clock) (g .free) (w .done) (w .left) others e (w .here .held));
+      before-in-table = omega (arith, w .here .prior-is, prior-in-table (g .slots) (g .clock) (g .free) (w .done) (w .left) others e (w .here .held));
     }
 
 -- One step of the splice, which leaves less to do.
@@ -89,17 +77,7 @@ Splices g e m e′ m′ = Splicing g e′ m′ × (to-do e′ m′ < to-do e m)
 stepped : (g : Splice) (e e′ : List ℕ) (m m′ : Pair) (upper upper′ done done′ left left′ : List Cell) → SpliceAt g e m upper done left → SpliceAt g e′ m′ upper′ done′ left′
     → length upper′ + length left′ < length upper + length left → Splices g e m e′ m′
 stepped g e e′ m m′ upper upper′ done done′ left left′ w w′ less = (
-  record {
-    upper = upper′;
-    done = done′;
-    left = left′;
-    held = w′ .held;
-    upper-is = w′ .upper-is;
-    head-is = w′ .head-is;
-    prior-is = w′ .prior-is;
-    at-is = w′ .at-is;
-    merges = w′ .merges;
-  },
+  record { upper = upper′; done = done′; left = left′; here = w′ },
   omega (arith, to-do-is g e m upper done left w, to-do-is g e′ m′ upper′ done′ left′ w′),
 )
 
@@ -194,12 +172,7 @@ module _ (g : Chains) (e : List ℕ) where
     upper = g .upper;
     done = [];
     left = g .lower;
-    held = h .held;
-    upper-is = h .upper-is;
-    head-is = h .lower-is;
-    prior-is = refl;
-    at-is = h .lower-is;
-    merges = refl;
+    here = record { held = h .held; upper-is = h .upper-is; head-is = h .lower-is; prior-is = refl; at-is = h .lower-is; merges = refl };
   }
 
   ends : (m : Pair) (upper done left : List Cell) → SpliceAt (splice-of g) e m upper done left → m .upper ≡ 0 → Spliced g e (m .head)
@@ -214,4 +187,4 @@ module _ (g : Chains) (e : List ℕ) where
       }
 
   pub splicing-ends : (m : Pair) → Splicing (splice-of g) e m → m .upper ≡ 0 → Spliced g e (m .head)
-  splicing-ends m w = ends m (w .upper) (w .done) (w .left) (splice-at (splice-of g) e m w)
+  splicing-ends m w = ends m (w .upper) (w .done) (w .left) (w .here)

@@ -23,10 +23,8 @@ pub record Sift : Type 0 where
   pub gone : ℕ
   pub others : List (List Cell)
 
-pub record Sifting (g : Sift) (e : List ℕ) (m : Cursor) : Type 0 where
-  pub done : List Cell
-  pub left : List Cell
-  pub free : List ℕ
+-- A sieve with these cells passed, these left and these slots free.
+pub record SiftAt (g : Sift) (e : List ℕ) (m : Cursor) (done left : List Cell) (free : List ℕ) : Type 0 where
   pub held : Held (g .slots) (g .clock) free ((done ++ left) ∷ g .others) e
   pub head-is : m .head ≡ head (done ++ left)
   pub prior-is : m .prior ≡ last-slot done
@@ -35,6 +33,12 @@ pub record Sifting (g : Sift) (e : List ℕ) (m : Cursor) : Type 0 where
   pub frees : release (cell-slots (select (g .test) left)) free ≡ g .free
   pub counts : m .gone + length (select (g .test) left) ≡ g .gone
   pub few : m .gone + length left ≤ g .slots
+
+pub record Sifting (g : Sift) (e : List ℕ) (m : Cursor) : Type 0 where
+  pub done : List Cell
+  pub left : List Cell
+  pub free : List ℕ
+  pub here : SiftAt g e m done left free
 
 -- The cells that the sieve has still to see, and how many they are.
 abbrev pub cells-left : List ℕ → Cursor → List Cell

@@ -36,16 +36,20 @@ pub record Splice : Type 0 where
   pub whole : List Cell
   pub others : List (List Cell)
 
-pub record Splicing (g : Splice) (e : List ℕ) (m : Pair) : Type 0 where
-  pub upper : List Cell
-  pub done : List Cell
-  pub left : List Cell
+-- A splice with these upper cells, these passed or placed, and these left of the lower chain.
+pub record SpliceAt (g : Splice) (e : List ℕ) (m : Pair) (upper done left : List Cell) : Type 0 where
   pub held : Held (g .slots) (g .clock) (g .free) ((done ++ left) ∷ upper ∷ g .others) e
   pub upper-is : m .upper ≡ head upper
   pub head-is : m .head ≡ head (done ++ left)
   pub prior-is : m .prior ≡ last-slot done
   pub at-is : m .at ≡ head left
   pub merges : done ++ merge cell-before upper left ≡ g .whole
+
+pub record Splicing (g : Splice) (e : List ℕ) (m : Pair) : Type 0 where
+  pub upper : List Cell
+  pub done : List Cell
+  pub left : List Cell
+  pub here : SpliceAt g e m upper done left
 
 -- How many cells have still to be passed or placed.
 abbrev pub to-do : List ℕ → Pair → ℕ

@@ -58,13 +58,13 @@ module _ (g : Strike) (e : List ℕ) (m : Progress) (w : Striking g e m) where
 
   -- Each upper chain, as the first of all.
   points-held : Held (g .slots) (g .clock) (w .sifting .free) (g .points ∷ (w .sifting .done ++ w .sifting .left) ∷ g .ranges ∷ g .others) e
-  points-held = swapped _ _ _ (w .sifting .done ++ w .sifting .left) (g .points) (g .ranges ∷ g .others) e (w .sifting .held)
+  points-held = swapped _ _ _ (w .sifting .done ++ w .sifting .left) (g .points) (g .ranges ∷ g .others) e (w .sifting .here .held)
 
   ranges-held : Held (g .slots) (g .clock) (w .sifting .free) (g .ranges ∷ (w .sifting .done ++ w .sifting .left) ∷ g .points ∷ g .others) e
-  ranges-held = third-first _ _ _ (w .sifting .done ++ w .sifting .left) (g .points) (g .ranges) (g .others) e (w .sifting .held)
+  ranges-held = third-first _ _ _ (w .sifting .done ++ w .sifting .left) (g .points) (g .ranges) (g .others) e (w .sifting .here .held)
 
   pub lower-in-table : InTable e (m .cursor .at)
-  lower-in-table = omega (arith, w .sifting .at-is, place-in-table _ _ _ (w .sifting .done) (w .sifting .left) _ e (w .sifting .held))
+  lower-in-table = omega (arith, w .sifting .here .at-is, place-in-table _ _ _ (w .sifting .done) (w .sifting .left) _ e (w .sifting .here .held))
 
   pub points-walk : Ordered e (m .points)
   points-walk = rest-ordered points-held (w .points-at) (w .points-ordered)
@@ -107,7 +107,7 @@ module _ (g : Strike) (e : List ℕ) (m : Progress) (w : Striking g e m) where
     told {cells} st = go (w .sifting .left) refl (st .says)
       where
         go : (left : List Cell) → w .sifting .left ≡ left → All (λ c. any-over (st .rest) (cell-lo c) ≡ any-over cells (cell-lo c)) left → any-over (st .rest) key ≡ any-over cells key
-        go [] is a = absurd (nz (w .sifting .at-is ∙ ap head is))
+        go [] is a = absurd (nz (w .sifting .here .at-is ∙ ap head is))
         go (c ∷ cs) is a = subst (λ (k : ℕ). any-over (st .rest) k ≡ any-over cells k) (sym (ap cell-lo (at-cursor c cs is))) (a .0)
 
     points-tell : ranges-say e (m .points) key ≡ any-over (g .points) key

@@ -59,21 +59,23 @@ module _ (g : Chains) (e : List ℕ) (m : Progress) (u : Uniting g e m) (a : Fir
       subst (Held (g .slots) (g .clock) (u .sifting .free) ((u .sifting .done ++ u .sifting .left) ∷ upper ∷ g .others)) table-is
       (restamped (g .slots) (g .clock) (u .sifting .free) (u .sifting .done ++ u .sifting .left) (u .passed) (a .cell) (a .rest) (g .others) e
       (max (a .cell .stamp) (l .cell .stamp))
-      (subst (λ (cs : List Cell). Held (g .slots) (g .clock) (u .sifting .free) ((u .sifting .done ++ u .sifting .left) ∷ cs ∷ g .others) e) upper-was (u .sifting .held)))
+      (subst (λ (cs : List Cell). Held (g .slots) (g .clock) (u .sifting .free) ((u .sifting .done ++ u .sifting .left) ∷ cs ∷ g .others) e) upper-was (u .sifting .here .held)))
 
   abbrev sifting : Sifting (sift-of (doubled (g .upper)) (lower-chain g upper)) table (m .cursor)
   sifting = record {
     done = u .sifting .done;
     left = u .sifting .left;
     free = u .sifting .free;
-    held = held;
-    head-is = u .sifting .head-is;
-    prior-is = u .sifting .prior-is;
-    at-is = u .sifting .at-is;
-    keeps = u .sifting .keeps;
-    frees = u .sifting .frees;
-    counts = u .sifting .counts;
-    few = u .sifting .few;
+    here = record {
+      held = held;
+      head-is = u .sifting .here .head-is;
+      prior-is = u .sifting .here .prior-is;
+      at-is = u .sifting .here .at-is;
+      keeps = u .sifting .here .keeps;
+      frees = u .sifting .here .frees;
+      counts = u .sifting .here .counts;
+      few = u .sifting .here .few;
+    };
   }
 
   -- The walk stands as before: beside the lower range at the cursor the upper one's own stamp is of no account.

@@ -37,7 +37,7 @@ first-of (c ∷ cs) nz = record { cell = c; rest = cs; is = refl }
 
 module _ (g : Chains) (e : List ℕ) (m : Progress) (u : Uniting g e m) where
   pub lower-first : m .cursor .at ≢ 0 → First (u .left)
-  lower-first nz = first-of (u .left) (λ z. nz (u .sifting .at-is ∙ ap head (u .left-is) ∙ z))
+  lower-first nz = first-of (u .left) (λ z. nz (u .sifting .here .at-is ∙ ap head (u .left-is) ∙ z))
 
   pub upper-first : m .upper ≢ 0 → First (u .ahead)
   upper-first nz = first-of (u .ahead) (λ z. nz (u .upper-is ∙ z))
@@ -53,7 +53,7 @@ module _ (g : Chains) (e : List ℕ) (m : Progress) (u : Uniting g e m) where
   upper-held : Held (g .slots) (g .clock) (u .sifting .free) ((u .passed ++ u .ahead) ∷ beside) e
   upper-held =
       subst (λ (cs : List Cell). Held (g .slots) (g .clock) (u .sifting .free) (cs ∷ beside) e) (u .parts)
-      (swapped (g .slots) (g .clock) (u .sifting .free) (u .sifting .done ++ u .sifting .left) (u .upper) (g .others) e (u .sifting .held))
+      (swapped (g .slots) (g .clock) (u .sifting .free) (u .sifting .done ++ u .sifting .left) (u .upper) (g .others) e (u .sifting .here .held))
 
   pub upper-in-table : InTable e (m .upper)
   upper-in-table = omega (arith, u .upper-is, place-in-table (g .slots) (g .clock) (u .sifting .free) (u .passed) (u .ahead) beside e upper-held)

@@ -8,7 +8,7 @@ use borrow.Author.Needs.{needs}
 use lib.ListN.{length}
 use Rattle.links.specs.Links.{linked}
 use Rattle.links.proofs.Links.{length-released}
-use Rattle.chains.proofs.Sieves.{cursor-fits, sift-at, sift-passes, sift-drops-first, sift-drops-after}
+use Rattle.chains.proofs.Sieves.{cursor-fits, sift-passes, sift-drops-first, sift-drops-after}
 use Rattle.chains.proofs.sift.Statement.{statement}
 use Rattle.chains.proofs.sift.Tie as tie
 
@@ -22,7 +22,7 @@ returns : tie.Need-returns
 returns c =
     let start = c .before .before .before .before in
     let a = start .args in
-    λ g w q. sift-passes g (a .e .now) (a .m) (start .pre .1) _ (c .before .next-of .ensures) (sym q ∙ not-true (a .goes) (c .if1 .taken)) _ _ _ (sift-at g _ _ w)
+    λ g w q. sift-passes g (a .e .now) (a .m) (start .pre .1) _ (c .before .next-of .ensures) (sym q ∙ not-true (a .goes) (c .if1 .taken)) _ _ _ (w .here)
 
 release-requires : tie.Need-release-requires
 release-requires c κs = let b = cursor-fits _ _ (c .before .before .before .before .before .pre .0) in (omega arith, omega arith)
@@ -40,7 +40,7 @@ returns-2 c =
     let start = read .before .before .before in
     let a = start .args in
     λ g w q. sift-drops-first g (a .e .now) (a .m) (start .pre .1) _ (read .next-of .ensures) _
-    (sym q ∙ not-false (a .goes) (freed .before .before .if1 .left)) (c .before .if2 .taken) (freed .release .ensures) _ _ _ (sift-at g _ _ w)
+    (sym q ∙ not-false (a .goes) (freed .before .before .if1 .left)) (c .before .if2 .taken) (freed .release .ensures) _ _ _ (w .here)
 
 set-next-requires : tie.Need-set-next-requires
 set-next-requires c κs =
@@ -64,7 +64,7 @@ returns-3 c =
     let a = start .args in
     let table≡ = c .before .before .before .set-next .ensures ∙ ap (λ (t : List ℕ). linked t (a .m .prior) (read .next-of .result)) (freed .release .ensures) in
     λ g w q. sift-drops-after g (a .e .now) (a .m) (start .pre .1) _ (read .next-of .ensures) _
-    (sym q ∙ not-false (a .goes) (freed .before .before .if1 .left)) (c .before .before .before .before .before .if2 .left) table≡ _ _ _ (sift-at g _ _ w)
+    (sym q ∙ not-false (a .goes) (freed .before .before .if1 .left)) (c .before .before .before .before .before .if2 .left) table≡ _ _ _ (w .here)
 
 pub sift-spec : {M : Type 1} → statement M
 sift-spec =

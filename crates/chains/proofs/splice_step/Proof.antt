@@ -8,7 +8,7 @@ use borrow.Author.Needs.{needs}
 use lib.ListN.{length}
 use Rattle.links.specs.Links.{linked}
 use Rattle.links.proofs.Links.{length-linked}
-use Rattle.chains.proofs.Splices.{pair-fits, Comes, splice-at, splice-passes, splice-first, splice-after}
+use Rattle.chains.proofs.Splices.{pair-fits, Comes, splice-passes, splice-first, splice-after}
 use Rattle.chains.proofs.splice_step.Statement.{statement}
 use Rattle.chains.proofs.splice_step.Tie as tie
 
@@ -31,7 +31,7 @@ returns c =
     let a = start .args in
     let at≡ = keyed .order-key .ensures in
     let upper≡ = c .before .before .before .order-key2 .ensures in
-    λ g w. splice-passes g (a .e .now) (a .m) _ (c .next-of .ensures) (keyed .before .before .if1 .taken) (start .pre .1) (omega (arith, c .before .before .if2 .taken)) _ _ _ (splice-at g _ _ w)
+    λ g w. splice-passes g (a .e .now) (a .m) _ (c .next-of .ensures) (keyed .before .before .if1 .taken) (start .pre .1) (omega (arith, c .before .before .if2 .taken)) _ _ _ (w .here)
 
 next-of-requires-2 : tie.Need-next-of-requires-2
 next-of-requires-2 c κs = let b = pair-fits _ _ (c .before .before .before .before .pre .0) in omega arith
@@ -50,7 +50,7 @@ returns-2 c =
     let a = start .args in
     let comes : Comes (a .e .now) (a .m) =
     ⊎-elim (λ way. inr (omega (arith, way .2 .ensures, way .4 .ensures, way .5 .left))) (λ way. inl (way .left)) (met .if1 .came) in
-    λ g w. splice-first g (a .e .now) (a .m) _ _ (placed .before .before .next-of2 .ensures) (start .pre .1) comes (c .if3 .taken) (placed .set-next .ensures) _ _ _ (splice-at g _ _ w)
+    λ g w. splice-first g (a .e .now) (a .m) _ _ (placed .before .before .next-of2 .ensures) (start .pre .1) comes (c .if3 .taken) (placed .set-next .ensures) _ _ _ (w .here)
 
 set-next-requires-2 : tie.Need-set-next-requires-2
 set-next-requires-2 c κs =
@@ -71,7 +71,7 @@ returns-3 c =
     let comes : Comes (a .e .now) (a .m) =
     ⊎-elim (λ way. inr (omega (arith, way .2 .ensures, way .4 .ensures, way .5 .left))) (λ way. inl (way .left)) (met .if1 .came) in
     let table≡ = c .before .before .set-next2 .ensures ∙ ap (λ (t : List ℕ). linked t (a .m .prior) (a .m .upper)) (placed .set-next .ensures) in
-    λ g w. splice-after g (a .e .now) (a .m) _ _ (placed .before .before .next-of2 .ensures) (start .pre .1) comes (c .before .before .before .before .if3 .left) table≡ _ _ _ (splice-at g _ _ w)
+    λ g w. splice-after g (a .e .now) (a .m) _ _ (placed .before .before .next-of2 .ensures) (start .pre .1) comes (c .before .before .before .before .if3 .left) table≡ _ _ _ (w .here)
 
 pub splice-step-spec : {M : Type 1} → statement M
 splice-step-spec =
