@@ -34,12 +34,18 @@ SHAPES = {
     "put ascending": "every slot live, dockets put in ascending order",
     "two by turns": "every slot live, docket after docket in the two deepest levels by turns, in the order of slots: laid out, not put",
     "three by turns": "the same in three levels",
+    "seven by turns": "the same in seven, L = 6",
+    "two at random": "the same in two levels, which of them drawn for each docket",
+    "seven at random": "the same in seven, L = 6",
+    "ranges between": "half the slots live in the deepest level, and between each two dockets a range delete in the level above",
+    "put twice": "half the slots live: each docket in both of the two deepest levels",
 }
 IN_LOOKUPS = """## A scan of all live dockets, in lookups on the same tables
 
 Proved, and in brackets C. Each round goes through all sizes, and at each times lookups of live dockets, scans of all, and lookups again, on the same tables; so
-a change of the machine's speed falls on both. Medians of 41 rounds. The last column is what a round found at 65,535 over what it found at 4,000: the median, and
-between which numbers the middle half of the rounds lies.
+a change of the machine's speed falls on both. There are sixteen tables of each size but the largest, used one after the other, each with rows of its own: 4,000
+slots are then read from as much memory as 65,535, and written to as much, and a processor cannot learn the order of a table's levels by heart. Medians of 41 rounds. The last column is what a round found at 65,535
+over what it found at 4,000: the median, and between which numbers the middle half of the rounds lies.
 """
 
 

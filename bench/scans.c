@@ -1,8 +1,8 @@
 /* Times scans of all dockets beside lookups of live ones on the same tables, in the same rounds at every size, by the archive and in
-   plain C. There are sixteen tables of each size but the largest, used one after the other: so 4,000 slots are read from as much memory
-   as 65,535, and no processor knows the order of a table's levels by heart. Prints a line for each shape and size: shape, slots, microseconds a lookup and a scan proved, a scan in C, the proved scan's
-   time over C's, what a scan costs in lookups, proved and in C, and how much the former is of the same at 4,000 slots: the median of the
-   rounds, and the quarters. */
+   plain C. There are sixteen tables of each size but the largest, used one after the other, each with rows of its own: so 4,000 slots are
+   read from as much memory as 65,535, and written to as much, and no processor knows the order of a table's levels by heart. Prints a line
+   for each shape and size: shape, slots, microseconds a lookup and a scan proved, a scan in C, the proved scan's time over C's, what a scan
+   costs in lookups, proved and in C, and how much the former is of the same at 4,000 slots: the median of the rounds, and the quarters. */
 #include "random.h"
 #include "tables.h"
 #include "timing.h"
@@ -12,8 +12,8 @@
 
 enum { MOST_CALLS = 2000, ROUNDS = 41, SEED = 1, MOST_TABLES = 16 };
 
-static const char *const names[SHAPES] = {"mixed calls",    "put at random", "put ascending",   "two by turns",  "three by turns",
-                                          "seven by turns", "two at random", "seven at random", "ranges between"};
+static const char *const names[SHAPES] = {"mixed calls",    "put at random", "put ascending",   "two by turns",   "three by turns",
+                                          "seven by turns", "two at random", "seven at random", "ranges between", "put twice"};
 
 static const struct size {
     uint32_t slots, calls, tables;
@@ -31,7 +31,10 @@ static struct call scan_of_all(uint32_t slots) { return draw("S", 0, 1, slots); 
 /* Microseconds a call, on one table after the other; the answers are added up so that both can be compared. */
 static double run(call_on *f, const struct store *s, const struct size *size, uint64_t *sum) {
     double start = microseconds();
-    for (size_t i = 0; i < size->calls; i++) *sum = *sum * 31 + f(&s[i % size->tables], &calls[i], rows);
+    for (size_t i = 0; i < size->calls; i++) {
+        size_t table = i % size->tables;
+        *sum = *sum * 31 + f(&s[table], &calls[i], rows + table * size->slots);
+    }
     return (microseconds() - start) / (double)size->calls;
 }
 

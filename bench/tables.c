@@ -47,13 +47,13 @@ static void lay_levels(struct store *s, uint32_t deepest, uint32_t slots, uint32
     }
 }
 
-/* Puts in the deepest level, and a range delete between each two in the level above. */
-static void lay_ranges(struct store *s, uint32_t deepest, uint32_t slots) {
+/* Puts in the deepest level, and in the level above a range delete between each two, or a put of the same docket. */
+static void lay_pairs(struct store *s, uint32_t deepest, uint32_t slots, uint32_t kind) {
     s->entries[0] = 0, s->entries[1] = 1;
     for (uint32_t i = slots; i-- > 0;) {
-        uint32_t docket = (uint32_t)((uint64_t)i * 65535 / slots);
+        uint32_t of = kind == PUT_KIND ? i - i % 2 : i, docket = (uint32_t)((uint64_t)of * 65535 / slots);
         if (i % 2 == 0) lay_record(s, i + 1, deepest, PUT_KIND, docket);
-        else lay_record(s, i + 1, deepest - 1, RANGE_KIND, docket);
+        else lay_record(s, i + 1, deepest - 1, kind, docket);
     }
 }
 
@@ -72,7 +72,8 @@ static uint32_t levels_of(enum shape shape) {
     switch (shape) {
     case TWO_BY_TURNS:
     case TWO_AT_RANDOM:
-    case RANGES_BETWEEN: return 2;
+    case RANGES_BETWEEN:
+    case PUT_TWICE: return 2;
     case THREE_BY_TURNS: return 3;
     case SEVEN_BY_TURNS:
     case SEVEN_AT_RANDOM: return 7;
@@ -85,8 +86,8 @@ uint32_t fill(struct store *s, enum shape shape, uint32_t slots) {
     uint32_t deepest = levels == MOST_LEVELS ? MOST_LEVELS - 1 : DEEPEST;
     s->entry_words = GUONTREM_ENTRY_WORDS(slots), s->level_words = GUONTREM_LEVEL_WORDS(deepest);
     native_make(s->entries, s->entry_words, s->levels, s->level_words, deepest, RATIO, BUFFER, TERM);
-    if (shape == RANGES_BETWEEN) {
-        lay_ranges(s, deepest, slots);
+    if (shape == RANGES_BETWEEN || shape == PUT_TWICE) {
+        lay_pairs(s, deepest, slots, shape == PUT_TWICE ? PUT_KIND : RANGE_KIND);
         return clock;
     }
     if (levels != 0) {

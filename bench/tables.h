@@ -15,7 +15,8 @@ enum {
 
 /* What tables hold: half the slots live and as many mixed calls as slots after that; every slot live, put at random or in ascending order;
    every slot live in some of the deepest levels, docket after docket by turns or at random, in the order of slots; live dockets in the
-   deepest level, and in the level above it a range delete between each two. Seven levels need an L of 6, the others have one of 3. */
+   deepest level, and in the level above it a range delete between each two, or the same dockets once more. Seven levels need an L of 6, the
+   others have one of 3. */
 enum shape {
     MIXED,
     PUT_AT_RANDOM,
@@ -26,6 +27,7 @@ enum shape {
     TWO_AT_RANDOM,
     SEVEN_AT_RANDOM,
     RANGES_BETWEEN,
+    PUT_TWICE,
     SHAPES
 };
 
