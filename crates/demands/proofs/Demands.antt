@@ -3,7 +3,7 @@ use mathlib.Core.Path.{_≡_}
 use mathlib.Core.Logic.{_↔_, _≢_}
 use mathlib.Core.Bool.{true, false}
 use mathlib.Core.List.{List, map}
-use Prim.Native.Nat.{ℕ, _≤_}
+use Prim.Native.Nat.{ℕ, _<_, _≤_}
 use lib.ListN.{length}
 use Rattle.settings.specs.declared.Settings.{Settings}
 use Rattle.settings.specs.Limits.{allowed}
@@ -13,7 +13,8 @@ use Rattle.model.specs.Lookup.{scan}
 use Rattle.model.specs.Calls.{Call, Answer, written, refusing, bad-clock, answers}
 use Rattle.model.specs.PlainMap.{get, map-run, map-refusals, no-rows}
 use Rattle.model.specs.Erasure.{retally, Erased}
-use Rattle.tables.specs.Words.{Fits32, settings-of, clock-of}
+use Rattle.history.specs.History.{came, earliest, history}
+use Rattle.tables.specs.Words.{Fits32, settings-of, level-row, clock-of}
 use Rattle.tables.specs.Sound.{table-refusal}
 use Rattle.lookup.specs.Lookup.{answered, lookup-tables}
 use Rattle.scan.specs.declared.Row.{Row}
@@ -101,6 +102,10 @@ module _ (n : ℕ) (s : Settings) (low : 1 ≤ n) (high : n ≤ 65535) (ok : all
 
   pub answers-as-steps : (cs : List (Call ℕ)) → answers-tables (made-tables n s) cs ≡ answers (slotless n s) cs
   answers-as-steps = made.answers-as-steps n s low high ok
+
+  -- What a level owes: "the earliest clock of any delete that came into the level, itself or through merges, since the level was last emptied; 0 if none".
+  pub owed-is-earliest : (cs : List (Call ℕ)) (i : ℕ) → i < s .deepest → level-row (tables-after n s cs .levels) i .w3 ≡ earliest (came (history (slotless n s) cs) i)
+  owed-is-earliest = made.owed-is-earliest n s low high ok
 
   -- DEMAND 3: had that put carried any other tally, every word of both tables would be the same. Settings and list alone decide the premises.
   pub erased-leaves-nothing : (cs : List (Call ℕ)) (i j k a v : ℕ) → Erased (slotless n s) cs i j k a → tables-after n s (retally i k v cs) ≡ tables-after n s cs

@@ -201,6 +201,13 @@ module _ {S A : Type 0} where
       erased-map (λ (x : S). tt {0}) (λ (x : A). x) (fresh settings slots) cs i j k a (e .write) (e .is-put) (e .is-write)
       (rw (sym (fresh-map (λ (x : S). tt {0}) (λ (x : A). x) settings slots), no-slots slots, same-calls cs) e)
 
+  -- Without its slots the state that a list leaves is the one that it leaves where no slot is told.
+  pub run-slotless : (settings : Settings) (slots : List S) (cs : List (Call A))
+      → run (slotless (length slots) settings) cs ≡ map-state (λ (x : S). tt {0}) (λ (x : A). x) (run (fresh settings slots) cs)
+  run-slotless settings slots cs =
+      rw (sym (fresh-map (λ (x : S). tt {0}) (λ (x : A). x) settings slots), no-slots slots, same-calls cs) at
+      (run-map (λ (x : S). tt {0}) (λ (x : A). x) (fresh settings slots) cs)
+
   -- Nor do the answers of a list.
   pub answers-slotless : (settings : Settings) (slots : List S) (cs : List (Call A)) → answers (fresh settings slots) cs ≡ answers (slotless (length slots) settings) cs
   answers-slotless settings slots cs =

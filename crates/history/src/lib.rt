@@ -1,0 +1,1 @@
+// What owed is, over a list of calls: definitions and theorems, no code.
