@@ -10,7 +10,7 @@ ghost use Rattle.heads.specs.Heads.{key-from, head-at, key-of, level-of,
 // Past the last docket: no record is left.
 const NO_KEY: u32 = 65536;
 
-// What a level has next is one number: its docket × 4,294,967,296 + the level × 65,536 + the slot. No level has seven as its number.
+// The head of level 7, which there is not, past the last docket: 65,536 × 4,294,967,296 + 7 × 65,536.
 const NO_HEAD: u64 = 281474977169408;
 
 // The least of some heads with its slot, and the others after it. The slot is told apart, so that the next record can be read before
@@ -59,7 +59,7 @@ pub fn push(a: Heads, h: u64) -> Heads
     sink(b, greater(a.first, h))
 }
 
-// The first record is passed, and its level's next head takes its place among the others. A level that stays ahead costs no more.
+// The first record is passed, and its level's next head takes its place among the others. A level that stays ahead changes nothing else.
 pub fn pass(e: &[u32], a: Heads) -> Heads
     requires { ⌜ Ordered (now e) (a .slot) ⌝ }
     requires { ⌜ a .slot ≢ 0 ⌝ }
@@ -76,7 +76,7 @@ pub fn pass(e: &[u32], a: Heads) -> Heads
     sink(a, h)
 }
 
-// The second head leads, and h takes its place behind it.
+// The second head leads, and h takes its place behind it: of each two the lesser stays, and the greater goes on to the next.
 fn sink(a: Heads, h: u64) -> Heads
     ensures { λ r. ⌜ r ≡ sunk a h ⌝ }
 {
@@ -96,7 +96,7 @@ fn sink(a: Heads, h: u64) -> Heads
     }
 }
 
-// What a level has next, from a slot on.
+// What a level has next, from a slot on, as one number: the docket × 4,294,967,296 + the level × 65,536 + the slot.
 pub fn head(e: &[u32], level: usize, slot: usize) -> u64
     requires { ⌜ Ordered (now e) slot ⌝ }
     requires { ⌜ level < 65536 ⌝ }
