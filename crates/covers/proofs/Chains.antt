@@ -10,7 +10,7 @@ use lib.Dec.{eqb, leb}
 use lib.ListN.{length, getD}
 use Rattle.lists.specs.All.{All}
 use Rattle.lists.proofs.Bools.{cond-elim, and-left, and-right, and-intro}
-use Rattle.tables.specs.Words.{next-of, lo-of}
+use Rattle.tables.specs.Words.{Fits32, next-of, lo-of}
 use Rattle.tables.specs.Sound.{chain, chain-from, ascend, order-key}
 use Rattle.covers.specs.Walks.{Walkable, Ordered}
 
@@ -69,11 +69,7 @@ go-on e h o nz = go (chain-from e h) refl (o .chained) (o .order) (chain-short e
 pub shorter : (e : List ℕ) (h : ℕ) → On e h → length (chain-from e (next-of e h)) < length (chain-from e h)
 shorter e h on = rw (on .whole) (omega arith)
 
--- A word has 32 bits.
-abbrev pub Words : List ℕ → Type 0
-Words e = (i : ℕ) → getD e i 0 < 4294967296
-
-module _ (e : List ℕ) (words : Words e) where
+module _ (e : List ℕ) (words : Fits32 e) where
   -- Where the key is past all those of the docket, so is every later one.
   pub all-past : (k least : ℕ) (ss : List ℕ) → (k + 1) * 65536 ≤ least → ascend e least ss ≡ true → All (λ s. k < lo-of e s) ss
   unfolding ascend

@@ -8,10 +8,10 @@ use borrow.Author.Tests.{le-leb, lt-leb}
 use Rattle.lists.specs.All.{All}
 use Rattle.lists.specs.Lists.{any}
 use Rattle.model.specs.Merge.{covered}
-use Rattle.tables.specs.Words.{next-of, lo-of, hi-of}
+use Rattle.tables.specs.Words.{Fits32, next-of, lo-of, hi-of}
 use Rattle.tables.specs.Sound.{chain-from}
 use Rattle.tables.specs.Placed.{read-range}
-use Rattle.covers.proofs.Chains.{On, Words, chain-end, past}
+use Rattle.covers.proofs.Chains.{On, chain-end, past}
 
 -- What the ranges of some slots, and of the chain from h, say of docket k.
 abbrev pub slots-say : List ℕ → List ℕ → ℕ → Bool
@@ -32,7 +32,7 @@ module _ (e : List ℕ) (h k : ℕ) where
   ranges-end z = rw (chain-end e h z)
 
   module _ (on : On e h) where
-    pub ranges-past : Words e → k < lo-of e h → ranges-say e h k ≡ false
+    pub ranges-past : Fits32 e → k < lo-of e h → ranges-say e h k ≡ false
     ranges-past words lt = covered-past e k (chain-from e h) (past e words h k on lt)
 
     pub ranges-here : lo-of e h ≤ k → k ≤ hi-of e h → ranges-say e h k ≡ true

@@ -11,11 +11,11 @@ use lib.Dec.{leb, ltb}
 use lib.ListN.{length, getD, set, length-set}
 use lib.Seq.{getD-set-same, getD-set-other}
 use Rattle.lists.proofs.Bools.{cond-elim, by-cases, or-left, or-right, or-false-intro}
-use Rattle.tables.specs.Words.{hi-of}
+use Rattle.tables.specs.Words.{Fits32, hi-of}
 use Rattle.tables.specs.Sound.{chain-from}
 use Rattle.covers.specs.Walks.{Ordered}
 use Rattle.covers.specs.Skips.{first-slot, drop-while, reaching}
-use Rattle.covers.proofs.Chains.{Words, go-on}
+use Rattle.covers.proofs.Chains.{go-on}
 use Rattle.covers.proofs.Walks.{ranges-say, ranges-end, ranges-past, ranges-here}
 use Rattle.covers.proofs.Skips.{skip-says}
 use Rattle.heads.specs.Heads.{key-from}
@@ -24,7 +24,7 @@ use Rattle.fences.specs.Fences.{Ready, View, over, range-front, surveyed
 use Rattle.fences.proofs.Surveys.{passed-ordered, passed-ready}
 
 -- A chain of ranges that begins past a docket has none over it.
-pub ranges-before : (e : List ℕ) → Words e → (h j : ℕ) → Ordered e h → j < key-from e h → ranges-say e h j ≡ false
+pub ranges-before : (e : List ℕ) → Fits32 e → (h j : ℕ) → Ordered e h → j < key-from e h → ranges-say e h j ≡ false
 ranges-before e words h j o lt = go (ℕ-discrete h 0)
   where
     go : Dec (h ≡ 0) → ranges-say e h j ≡ false
@@ -65,7 +65,7 @@ pub record Viewed (e ranges : List ℕ) (k n : ℕ) (v : View) : Type 0 where
   pub past : k < v .cover .fence
   pub covers : (j m : ℕ) → k ≤ j → j < v .cover .fence → m ≤ n → over e (v .ranges) j m 0 ≡ ltb (v .cover .level) m
 
-module _ (e : List ℕ) (words : Words e) (k n : ℕ) (last : k ≤ 65535) where
+module _ (e : List ℕ) (words : Fits32 e) (k n : ℕ) (last : k ≤ 65535) where
   abbrev Clear : List ℕ → ℕ → ℕ → Type 0
   Clear ranges fence i = (j m : ℕ) → k ≤ j → j < fence → m < i → ranges-say e (getD ranges m 0) j ≡ false
 

@@ -6,9 +6,9 @@ use Prim.Native.Nat.{ℕ, _-_, _<_, _≤_}
 use native.Mathlib.Omega.{arith}
 use native.Mathlib.Decide.{ℕ-discrete}
 use Rattle.lists.specs.All.{All}
-use Rattle.tables.specs.Words.{next-of, lo-of}
+use Rattle.tables.specs.Words.{Fits32, next-of, lo-of}
 use Rattle.tables.specs.Sound.{chain-from}
-use Rattle.covers.proofs.Chains.{On, Words, chain-end, past}
+use Rattle.covers.proofs.Chains.{On, chain-end, past}
 use Rattle.heads.specs.Heads.{first-lo, key-from, head-at, key-of, level-of, slot-of}
 
 first-lo-bound : (e ss : List ℕ) → first-lo e ss ≤ 65536
@@ -30,7 +30,7 @@ module _ (e : List ℕ) where
   key-on s on = rw (on .whole)
 
   -- The next record of a chain begins no earlier.
-  pub key-next : Words e → (s : ℕ) → On e s → key-from e s ≤ key-from e (next-of e s)
+  pub key-next : Fits32 e → (s : ℕ) → On e s → key-from e s ≤ key-from e (next-of e s)
   key-next words s on = rw (key-on s on) (go (ℕ-discrete (lo-of e s) 0))
     where
       least : (k : ℕ) (ss : List ℕ) → k < 65536 → All (λ t. k < lo-of e t) ss → k < first-lo e ss

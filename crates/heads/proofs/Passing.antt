@@ -12,10 +12,10 @@ use Rattle.lists.specs.Lists.{sum}
 use Rattle.lists.specs.All.{All}
 use Rattle.lists.proofs.Bools.{by-cases, cond-elim}
 use Rattle.lists.proofs.Tests.{all-both}
-use Rattle.tables.specs.Words.{next-of}
+use Rattle.tables.specs.Words.{Fits32, next-of}
 use Rattle.tables.specs.Sound.{chain-from, ascend}
 use Rattle.covers.specs.Walks.{Ordered}
-use Rattle.covers.proofs.Chains.{On, Words, chain-end, go-on, shorter}
+use Rattle.covers.proofs.Chains.{On, chain-end, go-on, shorter}
 use Rattle.heads.specs.declared.Heads.{Heads}
 use Rattle.heads.specs.Heads.{key-from, head-at, key-of, level-of, slot-of, insert, others, heads-of, sunk, led, passed, point-in, times-in, point, left, Head, Rising, Fits}
 use Rattle.heads.proofs.Leads.{kept}
@@ -129,7 +129,7 @@ module _ {e : List ℕ} {n : ℕ} {a : Heads} (f : Fits e n a) where
     }
 
     -- What comes after the first is no earlier.
-    pub passed-later : Words e → key ≤ key-of (passed e a .first)
+    pub passed-later : Fits32 e → key ≤ key-of (passed e a .first)
     passed-later words =
         cond-elim (λ r. key ≤ key-of (r .first)) (ltb new (a .h1)) (kept a new next) (sunk a new)
         (λ t. omega (arith, head-key e level next (omega arith) (omega arith), key-next e words (a .slot) slot-on, slot-key))

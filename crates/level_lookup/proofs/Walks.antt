@@ -4,10 +4,10 @@ use mathlib.Core.Logic.{_≢_}
 use mathlib.Core.List.{List, map}
 use Prim.Native.Nat.{ℕ, _<_}
 use borrow.Author.Tests.{eq-eqb, ne-eqb}
-use Rattle.tables.specs.Words.{next-of, lo-of}
+use Rattle.tables.specs.Words.{Fits32, next-of, lo-of}
 use Rattle.tables.specs.Sound.{chain-from}
 use Rattle.tables.specs.Placed.{read-point}
-use Rattle.covers.proofs.Chains.{On, Words, chain-end, past}
+use Rattle.covers.proofs.Chains.{On, chain-end, past}
 use Rattle.level_lookup.specs.declared.Decided.{Decided}
 use Rattle.level_lookup.specs.declared.Decided.the-variants.{Deeper}
 use Rattle.level_lookup.specs.Answers.{tells, decides}
@@ -23,7 +23,7 @@ module _ (e : List ℕ) (h k : ℕ) where
   points-end z = rw (chain-end e h z)
 
   module _ (on : On e h) where
-    pub points-past : Words e → k < lo-of e h → points-say e h k ≡ Deeper
+    pub points-past : Fits32 e → k < lo-of e h → points-say e h k ≡ Deeper
     points-past words lt = decides-past e k (chain-from e h) (past e words h k on lt)
 
     pub points-here : lo-of e h ≡ k → points-say e h k ≡ tells (read-point e h .entry) (read-point e h .stamp)

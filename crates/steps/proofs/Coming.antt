@@ -10,11 +10,11 @@ use lib.Dec.{ltb}
 use Rattle.lists.proofs.Bools.{cond-elim, cond-same}
 use Rattle.model.specs.Records.{Entry, value, tombstone}
 use Rattle.model.specs.Lookup.{Found, absent, reads, lookup}
-use Rattle.tables.specs.Words.{lo-of}
+use Rattle.tables.specs.Words.{Fits32, lo-of}
 use Rattle.tables.specs.Placed.{read-point}
 use Rattle.covers.specs.Walks.{Ordered}
 use Rattle.covers.specs.Skips.{drop-while, beginning}
-use Rattle.covers.proofs.Chains.{Words, go-on}
+use Rattle.covers.proofs.Chains.{go-on}
 use Rattle.covers.proofs.Walks.{ranges-say}
 use Rattle.level_lookup.specs.declared.Decided.the-variants.{Deeper}
 use Rattle.level_lookup.specs.Answers.{settle, tells, decides, chain-level, level-decides}
@@ -26,7 +26,7 @@ use Rattle.fences.specs.Fences.{over}
 use Rattle.steps.specs.Sweeps.{levels-from, range-at}
 
 -- Points that begin past the docket say nothing of it.
-pub points-before : (e : List ℕ) → Words e → (h j : ℕ) → Ordered e h → j < key-from e h → points-say e h j ≡ Deeper
+pub points-before : (e : List ℕ) → Fits32 e → (h j : ℕ) → Ordered e h → j < key-from e h → points-say e h j ≡ Deeper
 points-before e words h j o lt = go (ℕ-discrete h 0)
   where
     go : Dec (h ≡ 0) → points-say e h j ≡ Deeper

@@ -9,9 +9,8 @@ use borrow.Author.Tests.{ne-eqb, eqb-true, eqb-false, ltb-true, ltb-false, leb-t
 use lib.Dec.{eqb, ltb, leb}
 use Rattle.lists.proofs.Bools.{by-cases, cond-elim}
 use Rattle.model.specs.Lookup.{absent, reads, add-row, lookup, live}
-use Rattle.tables.specs.Words.{next-of, kind-of, lo-of, stamp-of}
+use Rattle.tables.specs.Words.{Fits32, next-of, kind-of, lo-of, stamp-of}
 use Rattle.tables.specs.Placed.{read-point}
-use Rattle.covers.proofs.Chains.{Words}
 use Rattle.level_lookup.proofs.Walks.{points-say, points-here, points-next}
 use Rattle.heads.specs.Heads.{passed, point, left}
 use Rattle.heads.proofs.Packs.{key-on}
@@ -27,7 +26,7 @@ use Rattle.steps.proofs.Coming.{points-before, absent-all, says-at, loo
 pub told-sweeping : {e : List ℕ} {m : Sweep} {going alive key value stamp : ℕ} → Sweeping e m → Sweeping e (told m going alive key value stamp)
 told-sweeping s = record { points = s .points; ranges = s .ranges; covers = s .covers; last = s .last }
 
-module _ {e : List ℕ} {m : Sweep} (words : Words e) (s : Sweeping e m) where
+module _ {e : List ℕ} {m : Sweep} (words : Fits32 e) (s : Sweeping e m) where
   abbrev k : ℕ
   k = next-key m
 

@@ -7,8 +7,8 @@ use Prim.Native.Nat.{ℕ, zero, suc, _<_, _≤_}
 use native.Mathlib.Omega.{arith}
 use borrow.Author.Tests.{eq-eqb, ne-eqb, eqb-true, eqb-false}
 use lib.Dec.{eqb}
+use Rattle.tables.specs.Words.{Fits32}
 use Rattle.lists.proofs.Bools.{by-cases, cond-elim}
-use Rattle.covers.proofs.Chains.{Words}
 use Rattle.heads.specs.Heads.{left}
 use Rattle.steps.specs.declared.Sweep.{Sweep}
 use Rattle.steps.specs.Sweeps.{Sweeping, standing, neared, rest, rows-from, listed}
@@ -16,7 +16,7 @@ use Rattle.steps.proofs.Steps.{told-sweeping, near-leads, steps-left, listed-sa
 use Rattle.sweep.specs.Sweeps.{step-of, arrived, searched, advanced}
 use Rattle.sweep.proofs.Crossing.{step-stepped}
 
-module _ (e : List ℕ) (words : Words e) where
+module _ (e : List ℕ) (words : Fits32 e) where
   arrived-there : (n : ℕ) (m : Sweep) → m .going ≡ 0 → arrived n e m ≡ m
   unfolding arrived
   arrived-there zero m stops = refl

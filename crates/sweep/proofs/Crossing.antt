@@ -5,9 +5,9 @@ use Prim.Native.Nat.{ℕ, _<_, _≤_}
 use native.Mathlib.Omega.{arith}
 use borrow.Author.Tests.{lt-ltb, le-ltb, le-leb, lt-leb, ltb-true, ltb-false, leb-true, leb-false}
 use lib.Dec.{ltb, leb}
+use Rattle.tables.specs.Words.{Fits32}
 use Rattle.lists.proofs.Bools.{by-cases}
 use Rattle.model.specs.Lookup.{lookup}
-use Rattle.covers.proofs.Chains.{Words}
 use Rattle.heads.specs.Heads.{point}
 use Rattle.heads.proofs.Passing.{level-inside}
 use Rattle.fences.proofs.Covers.{Viewed, viewed}
@@ -31,7 +31,7 @@ module _ (e : List ℕ) (m : Sweep) where
   pub step-near : next-key m < m .fence → step-of e m ≡ neared e m
   step-near lt = rw (lt-leb (m .fence) (next-key m) lt)
 
-module _ {e : List ℕ} {m : Sweep} (words : Words e) (s : Sweeping e m) where
+module _ {e : List ℕ} {m : Sweep} (words : Fits32 e) (s : Sweeping e m) where
   module _ (le : next-key m ≤ m .hi) where
     abbrev v : Sweep
     v = viewing m (view-of e m)

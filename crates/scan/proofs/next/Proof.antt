@@ -1,6 +1,6 @@
 -- `scan::next` meets its contract: what an advance of the sweep leaves is what was still to come.
 use borrow.Author.Needs.{needs}
-use Rattle.covers.proofs.Chains.{Words}
+use Rattle.tables.specs.Words.{Fits32}
 use Rattle.sweep.proofs.Arriving.{advanced-sweeping, advanced-rows}
 use Rattle.scan.proofs.next.Statement.{statement}
 use Rattle.scan.proofs.next.Tie as tie
@@ -11,7 +11,7 @@ advance-requires c κs = search needs
 returns : tie.Need-returns
 returns c =
     let a = c .before .before in
-    let words : Words (a .args .entries .now) = λ i. c .before .shared-slice-known .given i .fits in
+    let words : Fits32 (a .args .entries .now) = λ i. c .before .shared-slice-known .given i .fits in
     rw (c .advance .ensures) (advanced-sweeping (a .args .entries .now) words (a .pre), advanced-rows (a .args .entries .now) words (a .pre))
 
 pub next-spec : {M : Type 1} → statement M

@@ -1,8 +1,8 @@
 -- `scan::open` meets its contract: tables of which no scan is refused are readable.
 use mathlib.Core.Path.{sym, ap, _∙_}
 use borrow.Author.Needs.{needs}
+use Rattle.tables.specs.Words.{Fits32}
 use Rattle.steps.specs.Sweeps.{is-live}
-use Rattle.covers.proofs.Chains.{Words}
 use Rattle.dockets.proofs.Refusals.{allowed-high}
 use Rattle.sweep.proofs.Arriving.{searched-sweeping, searched-rows}
 use Rattle.sweep.proofs.Opening.{opened-sweeping, opened-rest}
@@ -19,7 +19,7 @@ begin-requires c κs =
 returns : tie.Need-returns
 returns c =
     let d = c .before .before .before .before in
-    let words : Words (d .args .entries .now) = λ i. c .before .before .before .shared-slice-known .given i .fits in
+    let words : Fits32 (d .args .entries .now) = λ i. c .before .before .before .shared-slice-known .given i .fits in
     let none = sym (d .pre) ∙ c .before .if1 .taken in
     let read = allowed-readable _ _ (d .args .lo) (d .args .hi) none in
     let on = opened-sweeping read (d .args .lo) (d .args .hi) (allowed-high _ _ (d .args .lo) (d .args .hi) none) in

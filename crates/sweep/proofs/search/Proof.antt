@@ -1,6 +1,6 @@
 -- `sweep::search` meets its contract. The loop's invariant: from here on the sweep arrives where it was to arrive.
 use mathlib.Core.Path.{_≡_, refl, sym, _∙_}
-use Rattle.covers.proofs.Chains.{Words}
+use Rattle.tables.specs.Words.{Fits32}
 use Rattle.steps.specs.Sweeps.{Sweeping}
 use Rattle.steps.proofs.Steps.{told-sweeping, steps-left, fewer-steps}
 use Rattle.sweep.specs.Sweeps.{arrived}
@@ -29,7 +29,7 @@ loop-less c =
 loop-again : tie.Need-loop-again Inv-loop μ-loop
 loop-again c =
     let l = c .before .before .before in
-    let words : Words (l .before .before .args .e .now) = λ i. l .before .shared-slice-known .given i .fits in
+    let words : Fits32 (l .before .before .args .e .now) = λ i. l .before .shared-slice-known .given i .fits in
     rw (c .step .ensures)
     (step-stepped words (l .loop .inv .0) .sweeping, turned (l .before .before .args .e .now) words (l .loop .r) (l .loop .inv .0) (c .before .if1 .taken) ∙ l .loop .inv .1)
 
