@@ -10,7 +10,7 @@ PAGES = [ROOT / "README.md", *sorted((ROOT / "docs").glob("*.md"))]
 QUOTED = re.compile(r"`([^`]+)`")
 # crate/specs/File.name.field, crate/proofs/File, crate/src/lib.function, crate/must-fail/edit
 CITED = re.compile(r"(?:crates/)?(\w+)/(specs|proofs|src|must-fail)(?:/([\w-]+)((?:[.:]+[^\s.`,]+)*))?(?:/)?")
-# Theorem in `crates/calls/proofs`: the names of the column stand there.
+# Theorem in `crates/call_tables/proofs`: the names of the column stand there.
 COLUMN = re.compile(r"`crates/(\w+)/(specs|proofs)`")
 
 

@@ -13,18 +13,18 @@ use Rattle.model.specs.Lookup.{scan}
 use Rattle.model.specs.Calls.{Call, Answer, written, refusing, bad-clock, answers}
 use Rattle.model.specs.PlainMap.{get, map-run, map-refusals, no-rows}
 use Rattle.model.specs.Erasure.{retally, Erased}
-use Rattle.history.specs.History.{came, earliest, history}
+use Rattle.model_history.specs.History.{came, earliest, history}
 use Rattle.tables.specs.Words.{Fits32, settings-of, level-row, clock-of}
 use Rattle.tables.specs.Sound.{table-refusal}
 use Rattle.lookup.specs.Lookup.{answered, lookup-tables}
 use Rattle.scan.specs.declared.Row.{Row}
-use Rattle.dockets.specs.Dockets.{docket-refusal}
+use Rattle.check_refusal.specs.Dockets.{docket-refusal}
 use Rattle.scan.specs.Scan.{unfilled, filled, scan-tables}
 use Rattle.scan.proofs.Words as scans
-use Rattle.calls.specs.Calls.{Tables, call-tables, tables-after, answers-tables, made-tables, refusal-number, merged-tables}
+use Rattle.call_tables.specs.Calls.{Tables, call-tables, tables-after, answers-tables, made-tables, refusal-number, merged-tables}
 use Rattle.demands.specs.Full.{SlotsLive}
-use Rattle.calls.proofs.Runs as runs
-use Rattle.calls.proofs.Refusals as refusals
+use Rattle.call_tables.proofs.Runs as runs
+use Rattle.call_tables.proofs.Refusals as refusals
 use Rattle.demands.proofs.Made as made
 
 -- DEMAND 1, for tables of any content. Each timed call is refused in exactly the listed cases, and a refusal "gives its number and zeros".

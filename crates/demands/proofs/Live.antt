@@ -15,7 +15,7 @@ use Rattle.tables.specs.Formed.{LevelFormed, Formed}
 use Rattle.tables.proofs.Back.{written-reads}
 use Rattle.lookup.specs.Lookup.{answered, lookup-tables}
 use Rattle.lookup.proofs.Refused.{looked-up-words}
-use Rattle.calls.specs.Calls.{words}
+use Rattle.call_tables.specs.Calls.{words}
 use Rattle.demands.specs.Full.{points-of, finds, SlotsLive}
 
 -- All dockets of a formed state's points are dockets.

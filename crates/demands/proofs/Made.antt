@@ -19,8 +19,8 @@ use Rattle.model.specs.PlainMap.{get, map-run, map-refusals, no-rows}
 use Rattle.model.specs.Erasure.{retally, Erased}
 use Rattle.model.proofs.Demands as model
 use Rattle.model.proofs.Numbers.{run-settings}
-use Rattle.history.specs.History.{came, earliest, history}
-use Rattle.history.proofs.Owed.{owed-without-slots}
+use Rattle.model_history.specs.History.{came, earliest, history}
+use Rattle.model_history.proofs.Owed.{owed-without-slots}
 use Rattle.tables.specs.Words.{Row as Row′, settings-of, level-row, clock-of, slots-of}
 use Rattle.tables.specs.Sound.{table-refusal}
 use Rattle.tables.specs.Placed.{row-words, level-words, read-state}
@@ -36,10 +36,10 @@ use Rattle.lookup.proofs.Refused.{looked-up-words}
 use Rattle.scan.specs.declared.Row.{Row}
 use Rattle.scan.specs.Scan.{filled, scan-tables}
 use Rattle.scan.proofs.Words.{scanned-words}
-use Rattle.calls.specs.Calls.{Tables, words, call-tables, made-tables, tables-after, answers-tables, merged-tables}
+use Rattle.call_tables.specs.Calls.{Tables, words, call-tables, made-tables, tables-after, answers-tables, merged-tables}
 use Rattle.demands.specs.Full.{SlotsLive}
-use Rattle.calls.proofs.Runs.{words-slots, run-words, answers-words}
-use Rattle.calls.proofs.Refusals.{refused-exactly}
+use Rattle.call_tables.proofs.Runs.{words-slots, run-words, answers-words}
+use Rattle.call_tables.proofs.Refusals.{refused-exactly}
 use Rattle.demands.proofs.Live.{live-words}
 
 seven : (b : Bool) → _≡_ {A = ℕ} (cond b 7 0) 7 → b ≡ true

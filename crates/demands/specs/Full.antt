@@ -12,7 +12,7 @@ use Rattle.tables.specs.Placed.{read-state}
 use Rattle.lookup.specs.Lookup.{lookup-tables}
 use Rattle.lookup.specs.declared.Answer.{Answer}
 use Rattle.lookup.specs.declared.Answer.the-variants.{Refused, Absent, Found}
-use Rattle.calls.specs.Calls.{Tables}
+use Rattle.call_tables.specs.Calls.{Tables}
 
 -- The points of all levels, read along their chains.
 abbrev pub points-of : Tables → List (Point ℕ ℕ)

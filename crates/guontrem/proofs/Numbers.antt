@@ -5,11 +5,11 @@ use Prim.Native.Nat.{ℕ, _≤_}
 use native.Mathlib.Omega.{arith}
 use Rattle.model.specs.Calls.{Call}
 use Rattle.tables.specs.Words.{Fits32}
-use Rattle.calls.specs.Calls.{Called, call-tables}
-use Rattle.calls.proofs.Bounds.{refusal-most, merges-most-12}
-use Rattle.refusals.specs.declared.Answer.{Answer}
-use Rattle.refusals.specs.Coded.{answer-of, lent, called}
-use Rattle.packing.specs.Packed.{answer-number, packed-call}
+use Rattle.call_tables.specs.Calls.{Called, call-tables}
+use Rattle.call_tables.proofs.Bounds.{refusal-most, merges-most-12}
+use Rattle.call_refusal.specs.declared.Answer.{Answer}
+use Rattle.call_refusal.specs.Coded.{answer-of, lent, called}
+use Rattle.c_packing.specs.Packed.{answer-number, packed-call}
 
 module _ (e l e′ l′ : List ℕ) (r : Answer) (c : Call ℕ) (is : called e′ l′ r ≡ call-tables (lent e l) c) where
   pub refusal-fits : r .refusal ≤ 255

@@ -6,7 +6,7 @@ use native.Mathlib.Omega.{arith}
 use Rattle.scan.specs.declared.Row.{Row}
 use Rattle.scan.specs.declared.Scanned.{Scanned}
 use Rattle.scan.specs.Scan.{Outcome, scan-tables}
-use Rattle.packing.specs.Packed.{packed-scan}
+use Rattle.c_packing.specs.Packed.{packed-scan}
 use Rattle.scan.proofs.Bounds.{answer-low}
 
 -- What `pack_scan` asks of an answer.

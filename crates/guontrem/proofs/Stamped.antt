@@ -13,8 +13,8 @@ use Rattle.tables.specs.Placed.{read-state}
 use Rattle.tables.specs.Formed.{LevelFormed}
 use Rattle.tables.specs.Words.{Fits32}
 use Rattle.tables.proofs.FormedSound.{sound-words}
-use Rattle.dockets.specs.Dockets.{docket-refusal}
-use Rattle.dockets.proofs.Refusals.{allowed-sound}
+use Rattle.check_refusal.specs.Dockets.{docket-refusal}
+use Rattle.check_refusal.proofs.Refusals.{allowed-sound}
 use Rattle.lookup.specs.declared.Answer.{Answer}
 use Rattle.lookup.specs.declared.Answer.the-variants.{Refused, Absent, Found}
 use Rattle.lookup.specs.Lookup.{answered, lookup-tables}

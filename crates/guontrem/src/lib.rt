@@ -1,27 +1,27 @@
 // The library for C: each call under a name of its own, its answer as one number.
+use c_packing::pack;
+use c_packing::pack_lookup;
+use c_packing::pack_scan;
+use call_timed::delete;
+use call_timed::delete_range;
+use call_timed::flush;
+use call_timed::put;
+use call_timed::tick;
+use check_refusal::table_refusal;
 use lookup::lookup;
 use make::make;
-use packing::pack;
-use packing::pack_lookup;
-use packing::pack_scan;
 use scan::Row;
 use scan::scan;
-use soundness::table_refusal;
-use ticks::flush;
-use ticks::tick;
-use timed::delete;
-use timed::delete_range;
-use timed::put;
 ghost use mathlib.Core.Path.{_≡_};
 ghost use Rattle.tables.specs.Sound.{table-refusal};
 ghost use Rattle.make.specs.Make.{make-tables};
 ghost use Rattle.lookup.specs.Lookup.{lookup-tables};
 ghost use Rattle.model.specs.Steps.{put, delete, delete-range};
 ghost use Rattle.model.specs.Calls.{written, flush, tick};
-ghost use Rattle.calls.specs.Calls.{call-tables};
+ghost use Rattle.call_tables.specs.Calls.{call-tables};
 ghost use Rattle.scan.specs.Scan.{scan-tables};
-ghost use Rattle.refusals.specs.Coded.{lent};
-ghost use Rattle.packing.specs.Packed.{packed, packed-call, packed-scan};
+ghost use Rattle.call_refusal.specs.Coded.{lent};
+ghost use Rattle.c_packing.specs.Packed.{packed, packed-call, packed-scan};
 
 // The number of the refusal that the tables meet, 1 to 3, or 0 where they are sound.
 #[no_mangle]

@@ -8,9 +8,9 @@ use native.Mathlib.Numerals.{add-one}
 use Rattle.model.specs.Lookup as model
 use Rattle.tables.specs.Words.{settings-of}
 use Rattle.tables.specs.Placed.{read-level, read-levels, read-state}
-use Rattle.level_lookup.specs.declared.Decided.{Decided}
-use Rattle.level_lookup.specs.Answers.{level-decides, settle}
-use Rattle.level_lookup.proofs.Answers.{lookup-decides}
+use Rattle.lookup_level.specs.declared.Decided.{Decided}
+use Rattle.lookup_level.specs.Answers.{level-decides, settle}
+use Rattle.lookup_level.proofs.Answers.{lookup-decides}
 
 -- The lookup in the levels from one on, so many as are left.
 abbrev pub look-from : List ℕ → List ℕ → ℕ → ℕ → ℕ → model.Found ℕ

@@ -11,7 +11,7 @@ use Rattle.tables.specs.Placed.{entry-words, level-words, read-state}
 use Rattle.tables.specs.Formed.{Formed}
 use Rattle.tables.proofs.Back.{written-reads}
 use Rattle.tables.proofs.FormedSound.{words-sound}
-use Rattle.dockets.specs.Dockets.{docket-refusal}
+use Rattle.check_refusal.specs.Dockets.{docket-refusal}
 use Rattle.lookup.specs.declared.Answer.{Answer}
 use Rattle.lookup.specs.declared.Answer.the-variants.{Refused}
 use Rattle.lookup.specs.declared.Found as answer

@@ -5,7 +5,7 @@ use Prim.Native.Nat.{ℕ}
 use lib.Dec.{eqb}
 use Rattle.model.specs.Lookup as model
 use Rattle.tables.specs.Placed.{read-state}
-use Rattle.dockets.specs.Dockets.{docket-refusal}
+use Rattle.check_refusal.specs.Dockets.{docket-refusal}
 use Rattle.lookup.specs.declared.Answer.{Answer}
 use Rattle.lookup.specs.declared.Answer.the-variants.{Refused, Absent, Found}
 

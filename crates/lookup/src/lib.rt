@@ -1,15 +1,15 @@
 // Lookup of one docket in the two tables: levels from 0, up to the first that decides.
-use dockets::docket_refusal;
-use level_lookup::Decided;
-use level_lookup::look_chains;
+use check_refusal::docket_refusal;
+use lookup_level::Decided;
+use lookup_level::look_chains;
 ghost use mathlib.Core.Path.{_≡_};
 ghost use Prim.Native.Nat.{_≤_};
 ghost use Rattle.model.specs.Lookup.{lookup};
 ghost use Rattle.tables.specs.Words.{settings-of};
 ghost use Rattle.tables.specs.Placed.{read-level, read-state};
-ghost use Rattle.level_lookup.specs.Answers.{level-decides};
+ghost use Rattle.lookup_level.specs.Answers.{level-decides};
 ghost use Rattle.lookup.specs.Found.{found-of};
-ghost use Rattle.level_lookup.specs.Readable.{Readable};
+ghost use Rattle.lookup_level.specs.Readable.{Readable};
 ghost use Rattle.lookup.specs.Lookup.{lookup-tables};
 
 // What a lookup answers: the number of its refusal, or else nothing, or the tally and the stamp.

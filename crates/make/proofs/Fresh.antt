@@ -22,9 +22,9 @@ use Rattle.tables.proofs.Lay.{top-row}
 use Rattle.tables.proofs.Back.{formed-words, holds-reads}
 use Rattle.tables.proofs.FormedLevels.{empty-formed}
 use Rattle.tables.proofs.FormedSound.{facts-sound, formed-sound}
-use Rattle.fresh.specs.Fresh.{next-free, made-entries, made-levels}
+use Rattle.make_fresh.specs.Fresh.{next-free, made-entries, made-levels}
 use Rattle.make.specs.Make.{count-up, upto}
-use Rattle.fresh.proofs.Entries.{length-made-entries, made-entries-first, made-entries-row}
+use Rattle.make_fresh.proofs.Entries.{length-made-entries, made-entries-first, made-entries-row}
 
 -- Each of 1, 2, .., n stands once in that list.
 length-count-up : (k s : ℕ) → length (count-up s k) ≡ k

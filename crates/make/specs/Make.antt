@@ -9,7 +9,7 @@ use Rattle.settings.specs.declared.Settings.{Settings}
 use Rattle.settings.specs.Limits.{allowed}
 use Rattle.tables.specs.Words.{slots-of}
 use Rattle.tables.specs.Sound.{entries-fit}
-use Rattle.fresh.specs.Fresh.{made-entries, made-levels}
+use Rattle.make_fresh.specs.Fresh.{made-entries, made-levels}
 
 -- The numbers s, s + 1 and so on, k of them; and 1, 2, .., n, the slots of a fresh store.
 unfoldable pub count-up : ℕ → ℕ → List ℕ

@@ -1,18 +1,11 @@
 // Makes a fresh store in two lent word tables, whatever they held before.
-use fresh::free_slots;
-use fresh::lay_levels;
+use make_fresh::free_slots;
+use make_fresh::lay_levels;
 use settings::Checked;
 use settings::Settings;
-use sizes::entries_fit;
+use table_slots::entries_fit;
 ghost use mathlib.Core.Path.{_≡_};
 ghost use Rattle.make.specs.Make.{make-tables};
-
-// Document 01's refusals of a making, in the order in which they are found.
-const ENTRY_LENGTH: u32 = 1;
-
-const OUT_OF_RANGE: u32 = 6;
-
-const LEVEL_LENGTH: u32 = 2;
 
 // Makes a store; answers 0, or the number of the refusal with both tables as they were.
 pub fn make(
@@ -26,14 +19,14 @@ pub fn make(
     ensures { λ r. ⌜ record { refusal = r; entries = now (entries .exit); levels = now (levels .exit) } ≡ make-tables (now (entries .entry)) (now (levels .entry)) (record { deepest = deepest; ratio = ratio; buffer = buffer; term = term }) ⌝ }
 {
     if !entries_fit(entries) {
-        return ENTRY_LENGTH;
+        return refusals::ENTRY_LENGTH;
     }
     let checked = Settings::new(deepest, ratio, buffer, term);
     let Checked::Accepted(settings) = checked else {
-        return OUT_OF_RANGE;
+        return refusals::SETTINGS;
     };
     if levels.len() != 4 * (deepest as usize + 2) {
-        return LEVEL_LENGTH;
+        return refusals::LEVEL_TABLE;
     }
     let slots = entries.len() / 4 - 1;
     free_slots(entries, slots);

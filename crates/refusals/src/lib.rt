@@ -1,43 +1,16 @@
-// What turns a timed call away at once, and the answer that says so.
-use dockets::docket_refusal;
-ghost use mathlib.Core.Path.{_≡_};
-ghost use Rattle.model.specs.Calls.{refusing};
-ghost use Rattle.refusals.specs.Coded.{answer-of, call-refusal};
+// The refusals of document 01, by where they are found. Number 8, the end of the pass, never comes, and has no name here.
+pub const ENTRY_LENGTH: u32 = 1;
 
-// The refusal of a clock that is 0 or before the last accepted one.
-const BAD_CLOCK: u32 = 5;
+pub const LEVEL_TABLE: u32 = 2;
 
-// A refusal's number with zeros, or 0 with the merges and the records that have gone.
-pub struct Answer {
-    pub refusal: u32,
-    pub merges: u32,
-    pub purged: u32,
-}
+pub const CHAINS: u32 = 3;
 
-// The first of the refusals 1 to 5 that the call meets, or 0.
-pub fn refusal_of(e: &[u32], l: &[u32], clock: u32, lo: u32, hi: u32) -> u32
-    ensures { λ r. ⌜ r ≡ call-refusal (now (e .entry)) (now (l .entry)) clock lo hi ⌝ }
-{
-    let refusal = docket_refusal(e, l, lo, hi);
-    if refusal != 0 {
-        return refusal;
-    }
-    if clock == 0 {
-        return BAD_CLOCK;
-    }
-    if clock < e[1] {
-        return BAD_CLOCK;
-    }
-    0
-}
+pub const DOCKET: u32 = 4;
 
-// A refusal gives its number and zeros.
-pub fn refused(refusal: u32) -> Answer
-    ensures { λ r. ⌜ answer-of r ≡ refusing refusal ⌝ }
-{
-    Answer {
-        refusal: refusal,
-        merges: 0,
-        purged: 0,
-    }
-}
+pub const CLOCK: u32 = 5;
+
+pub const SETTINGS: u32 = 6;
+
+pub const FULL: u32 = 7;
+
+pub const LINE: u32 = 9;

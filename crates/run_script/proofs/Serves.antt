@@ -4,8 +4,8 @@ use mathlib.Core.List.{List}
 use Prim.Native.Nat.{ℕ}
 use native.Mathlib.Omega.{arith}
 use lib.ListN.{length}
-use Rattle.line_buffer.specs.declared.Progress.{Progress}
-use Rattle.line_buffer.specs.Room.{Ready}
+use Rattle.script_buffer.specs.declared.Progress.{Progress}
+use Rattle.script_buffer.specs.Room.{Ready}
 use Rattle.run_script.specs.declared.Served.{Served}
 use Rattle.run_script.specs.Served.{Serving}
 

@@ -3,7 +3,7 @@ use mathlib.Core.Path.{_≡_}
 use mathlib.Core.List.{List}
 use Prim.Native.Nat.{ℕ}
 use lib.ListN.{length}
-use Rattle.line_buffer.specs.Room.{Ready}
+use Rattle.script_buffer.specs.Room.{Ready}
 use Rattle.run_script.specs.declared.Served.{Served}
 
 -- Room for the store and a line, and for all that a block of input prints.

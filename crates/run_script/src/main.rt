@@ -1,9 +1,9 @@
 // The script program of document 01: reads standard input and prints three numbers for each line.
 use libc::STDIN_FILENO;
 use libc::STDOUT_FILENO;
-use line_buffer::Progress;
-use stream::feed;
-use stream::finish;
+use script_buffer::Progress;
+use script_stream::feed;
+use script_stream::finish;
 ghost use mathlib.Core.Path.{_≡_};
 ghost use Prim.Native.Nat.{_≤_};
 ghost use mathlib.Core.Bool.{true};

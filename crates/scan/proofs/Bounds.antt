@@ -17,9 +17,9 @@ use Rattle.tables.specs.Sound.{table-refusal}
 use Rattle.tables.proofs.Numbers.{tables-refuse-low}
 use Rattle.tables.specs.Placed.{read-state}
 use Rattle.scan.specs.declared.Row.{Row}
-use Rattle.dockets.specs.Dockets.{bad-dockets, docket-refusal}
+use Rattle.check_refusal.specs.Dockets.{bad-dockets, docket-refusal}
 use Rattle.scan.specs.Scan.{scan-tables}
-use Rattle.dockets.proofs.Refusals.{allowed-high, allowed-order}
+use Rattle.check_refusal.proofs.Refusals.{allowed-high, allowed-order}
 
 module _ {A : Type 0} where
   added-length : (k : ℕ) (v : Found A) (rs : List (model.Row A)) → length (add-row k v rs) ≤ suc (length rs)

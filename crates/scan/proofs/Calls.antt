@@ -31,17 +31,17 @@ use denote.Triple.Clauses.{ensured, lasts}
 use denote.Triple.Spec.{tripleOf}
 use denote.Triple.Walked.{says}
 use Rattle.scan.specs.declared.Row.{Row}
-use Rattle.steps.specs.declared.Sweep.{Sweep}
+use Rattle.scan_step.specs.declared.Sweep.{Sweep}
 use Rattle.scan.specs.declared.Scanned.{Scanned}
-use Rattle.steps.specs.Sweeps.{Sweeping, rest, rows-from}
-use Rattle.dockets.specs.Dockets.{docket-refusal}
+use Rattle.scan_step.specs.Sweeps.{Sweeping, rest, rows-from}
+use Rattle.check_refusal.specs.Dockets.{docket-refusal}
 use Rattle.scan.specs.Scan.{Opened, row-at, has-row, closed}
-use Rattle.steps.proofs.Sweep as S
-use Rattle.steps.proofs.Sweep.Laws as S′
+use Rattle.scan_step.proofs.Sweep as S
+use Rattle.scan_step.proofs.Sweep.Laws as S′
 use Rattle.scan.proofs.Row as T
 use Rattle.scan.proofs.Scanned as C
-use Rattle.dockets.proofs.docket_refusal as refusal-fn
-use Rattle.dockets.proofs.docket_refusal.Symbol.{name as #dockets·docket-refusal}
+use Rattle.check_refusal.proofs.docket_refusal as refusal-fn
+use Rattle.check_refusal.proofs.docket_refusal.Symbol.{name as #dockets·docket-refusal}
 use Rattle.scan.proofs.open as open-first
 use Rattle.scan.proofs.open.Symbol.{name as #scan·open}
 use Rattle.scan.proofs.goes_on as goes-on

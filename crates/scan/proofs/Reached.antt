@@ -10,11 +10,11 @@ use borrow.Author.Tests.{eqb-true, lt-ltb, le-ltb, ltb-true, ltb-false}
 use Rattle.lists.proofs.Bools.{by-cases, both-false, and-left, and-right, and-second-false}
 use Rattle.model.specs.Lookup as model
 use Rattle.tables.specs.Placed.{read-state}
-use Rattle.steps.specs.declared.Sweep.{Sweep}
+use Rattle.scan_step.specs.declared.Sweep.{Sweep}
 use Rattle.scan.specs.declared.Row.{Row}
 use Rattle.scan.specs.declared.Scanned.{Scanned}
-use Rattle.steps.specs.Sweeps.{Sweeping, rest, row-found, is-live, rows-from}
-use Rattle.dockets.specs.Dockets.{docket-refusal}
+use Rattle.scan_step.specs.Sweeps.{Sweeping, rest, row-found, is-live, rows-from}
+use Rattle.check_refusal.specs.Dockets.{docket-refusal}
 use Rattle.scan.specs.Scan.{Outcome, written, filled, scan-tables, Opened, row-at, has-row, closed}
 use Rattle.scan.proofs.Filling.{so-far, length-so-far, set-so-far, drop-inside, drop-none, drop-next, take-over}
 

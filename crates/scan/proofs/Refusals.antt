@@ -7,12 +7,12 @@ use Prim.Native.Nat.{ℕ}
 use borrow.Author.Tests.{eq-eqb, eqb-true}
 use Rattle.model.specs.Lookup as model
 use Rattle.tables.specs.Placed.{read-state}
-use Rattle.dockets.specs.Dockets.{docket-refusal}
-use Rattle.dockets.proofs.Refusals.{allowed-sound}
-use Rattle.level_lookup.specs.Readable.{Readable}
-use Rattle.level_lookup.proofs.Sound.{readable}
-use Rattle.steps.specs.declared.Sweep.{Sweep}
-use Rattle.steps.specs.Sweeps.{Sweeping, is-live, rows-from}
+use Rattle.check_refusal.specs.Dockets.{docket-refusal}
+use Rattle.check_refusal.proofs.Refusals.{allowed-sound}
+use Rattle.lookup_level.specs.Readable.{Readable}
+use Rattle.lookup_level.proofs.Sound.{readable}
+use Rattle.scan_step.specs.declared.Sweep.{Sweep}
+use Rattle.scan_step.specs.Sweeps.{Sweeping, is-live, rows-from}
 use Rattle.scan.specs.Scan.{Opened}
 
 module _ (e l : List ℕ) (lo hi : ℕ) where

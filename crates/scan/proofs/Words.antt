@@ -14,7 +14,7 @@ use Rattle.tables.specs.Formed.{Formed}
 use Rattle.tables.proofs.Back.{written-reads}
 use Rattle.tables.proofs.FormedSound.{words-sound}
 use Rattle.scan.specs.declared.Row.{Row}
-use Rattle.dockets.specs.Dockets.{docket-refusal}
+use Rattle.check_refusal.specs.Dockets.{docket-refusal}
 use Rattle.scan.specs.Scan.{filled, unfilled, scan-tables}
 
 module _ (e l : List ℕ) (lo hi : ℕ) (rows : List Row) where

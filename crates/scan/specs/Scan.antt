@@ -7,11 +7,11 @@ use lib.Dec.{eqb, ltb}
 use lib.ListN.{length, drop}
 use Rattle.model.specs.Lookup as model
 use Rattle.tables.specs.Placed.{read-state}
-use Rattle.dockets.specs.Dockets.{docket-refusal}
-use Rattle.steps.specs.declared.Sweep.{Sweep}
+use Rattle.check_refusal.specs.Dockets.{docket-refusal}
+use Rattle.scan_step.specs.declared.Sweep.{Sweep}
 use Rattle.scan.specs.declared.Row.{Row}
 use Rattle.scan.specs.declared.Scanned.{Scanned}
-use Rattle.steps.specs.Sweeps.{Sweeping, is-live, rows-from}
+use Rattle.scan_step.specs.Sweeps.{Sweeping, is-live, rows-from}
 
 -- What a scan leaves: its answer, and the caller's rows.
 pub record Outcome : Type 0 where

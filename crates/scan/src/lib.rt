@@ -1,12 +1,12 @@
 // Scan: the live dockets from lo to hi, written into the caller's rows.
-use dockets::docket_refusal;
-use steps::Sweep;
-use sweep::advance;
-use sweep::begin;
-use sweep::ended;
+use check_refusal::docket_refusal;
+use scan_step::Sweep;
+use scan_sweep::advance;
+use scan_sweep::begin;
+use scan_sweep::ended;
 ghost use mathlib.Core.Path.{_≡_};
-ghost use Rattle.dockets.specs.Dockets.{docket-refusal};
-ghost use Rattle.steps.specs.Sweeps.{Sweeping, rest, rows-from};
+ghost use Rattle.check_refusal.specs.Dockets.{docket-refusal};
+ghost use Rattle.scan_step.specs.Sweeps.{Sweeping, rest, rows-from};
 ghost use Rattle.scan.specs.Scan.{Opened, row-at, has-row, closed, scan-tables};
 
 // A live docket, its tally and its stamp.

@@ -21,9 +21,6 @@ const TERM_LOW: u32 = 1;
 
 const TERM_HIGH: u32 = 4294967295;
 
-// The refusal's number for settings out of range.
-const OUT_OF_RANGE: u32 = 6;
-
 // L, T, B and D of document 01.
 pub struct Settings {
     pub deepest: u32,
@@ -65,7 +62,7 @@ impl Settings {
             term: term,
         };
         if !s.is_allowed() {
-            return Checked::Refused(OUT_OF_RANGE);
+            return Checked::Refused(refusals::SETTINGS);
         }
         Checked::Accepted(s)
     }

@@ -1,4 +1,4 @@
--- `guontrem::guontrem_delete` meets its contract: the answer of `timed::delete`, in one number.
+-- `guontrem::guontrem_delete` meets its contract: the answer of `call_timed::delete`, in one number.
 use native.Mathlib.Omega.{arith}
 use borrow.Author.Needs.{needs}
 use Rattle.model.specs.Steps.{delete}

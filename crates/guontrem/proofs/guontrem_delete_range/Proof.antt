@@ -1,4 +1,4 @@
--- `guontrem::guontrem_delete_range` meets its contract: the answer of `timed::delete_range`, in one number.
+-- `guontrem::guontrem_delete_range` meets its contract: the answer of `call_timed::delete_range`, in one number.
 use native.Mathlib.Omega.{arith}
 use borrow.Author.Needs.{needs}
 use Rattle.model.specs.Steps.{delete-range}

@@ -1,4 +1,4 @@
--- `guontrem::guontrem_flush` meets its contract: the answer of `timed::flush`, in one number.
+-- `guontrem::guontrem_flush` meets its contract: the answer of `call_timed::flush`, in one number.
 use native.Mathlib.Omega.{arith}
 use borrow.Author.Needs.{needs}
 use Rattle.model.specs.Calls.{flush}

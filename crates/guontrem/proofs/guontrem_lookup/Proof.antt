@@ -1,7 +1,7 @@
 -- `guontrem::guontrem_lookup` meets its contract: the answer of `lookup::lookup`, in one number.
 use mathlib.Core.Path.{ap, _∙_}
 use borrow.Author.Needs.{needs}
-use Rattle.packing.specs.Packed.{packed}
+use Rattle.c_packing.specs.Packed.{packed}
 use Rattle.guontrem.proofs.guontrem_lookup.Statement.{statement}
 use Rattle.guontrem.proofs.guontrem_lookup.Tie as tie
 

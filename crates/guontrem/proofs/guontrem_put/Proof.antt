@@ -1,4 +1,4 @@
--- `guontrem::guontrem_put` meets its contract: the answer of `timed::put`, in one number.
+-- `guontrem::guontrem_put` meets its contract: the answer of `call_timed::put`, in one number.
 use native.Mathlib.Omega.{arith}
 use borrow.Author.Needs.{needs}
 use Rattle.model.specs.Steps.{put}

@@ -40,7 +40,7 @@ use denote.Triple.Walked.{says, Stays, stay-dropped, gave-slice, walkOf, Walks, 
 use Rattle.scan.specs.declared.Row.{Row}
 use Rattle.scan.specs.declared.Scanned.{Scanned}
 use Rattle.scan.specs.Scan.{Outcome, scan-tables}
-use Rattle.packing.specs.Packed.{packed-scan}
+use Rattle.c_packing.specs.Packed.{packed-scan}
 use Rattle.guontrem.proofs.Rooms.{Packable, packable, packs}
 use Rattle.scan.proofs.Row as T
 use Rattle.scan.proofs.Scanned as C
@@ -49,10 +49,10 @@ use Rattle.scan.proofs.scan as scan
 use Rattle.scan.proofs.scan.Symbol as scan-def
 use Rattle.scan.proofs.scan.Symbol.{name as #scan·scan}
 use Rattle.scan.proofs.scan.Met as scan-thm
-use Rattle.packing.proofs.pack_scan as pack
-use Rattle.packing.proofs.pack_scan.Symbol as pack-def
-use Rattle.packing.proofs.pack_scan.Symbol.{name as #packing·pack-scan}
-use Rattle.packing.proofs.pack_scan.Met as pack-thm
+use Rattle.c_packing.proofs.pack_scan as pack
+use Rattle.c_packing.proofs.pack_scan.Symbol as pack-def
+use Rattle.c_packing.proofs.pack_scan.Symbol.{name as #packing·pack-scan}
+use Rattle.c_packing.proofs.pack_scan.Met as pack-thm
 use Rattle.guontrem.proofs.guontrem_scan.Key.{name as #guontrem·guontrem-scan}
 use Rattle.guontrem.proofs.guontrem_scan as f
 use Rattle.guontrem.proofs.guontrem_scan.Statement as stated
@@ -200,4 +200,4 @@ guontrem-scan-spec 𝓤 H 𝓜 𝓖 𝓡 =
     (tables 𝓤 H 𝓜 𝓡 code.env .C) (tables 𝓤 H 𝓜 𝓡 code.env .Λ) #guontrem·guontrem-scan code.function (code.unfolded 𝓤 H 𝓜 𝓡)
     (guontrem-scan-meets 𝓤 H (𝓖 .A) (givenOf 𝓤 H 𝓜 𝓖) (𝓜 .mem) (𝓡 .run) (tablesOf 𝓤 H 𝓜 (tables 𝓤 H 𝓜 𝓡 code.env))
     (cited 𝓤 H (Scan 𝓤 H (𝓖 .A) (𝓜 .mem) (𝓡 .run)) 𝓜 𝓡 code.env #scan·scan scan-def.routine code.calls-scan·scan (scan-thm.met 𝓤 H 𝓜 𝓖 𝓡))
-    (cited 𝓤 H (Pack 𝓤 H (𝓖 .A) (𝓜 .mem) (𝓡 .run)) 𝓜 𝓡 code.env #packing·pack-scan pack-def.routine code.calls-packing·pack-scan (pack-thm.met 𝓤 H 𝓜 𝓖 𝓡)))
+    (cited 𝓤 H (Pack 𝓤 H (𝓖 .A) (𝓜 .mem) (𝓡 .run)) 𝓜 𝓡 code.env #packing·pack-scan pack-def.routine code.calls-c-packing·pack-scan (pack-thm.met 𝓤 H 𝓜 𝓖 𝓡)))

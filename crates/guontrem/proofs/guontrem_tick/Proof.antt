@@ -1,4 +1,4 @@
--- `guontrem::guontrem_tick` meets its contract: the answer of `timed::tick`, in one number.
+-- `guontrem::guontrem_tick` meets its contract: the answer of `call_timed::tick`, in one number.
 use native.Mathlib.Omega.{arith}
 use borrow.Author.Needs.{needs}
 use Rattle.model.specs.Calls.{tick}

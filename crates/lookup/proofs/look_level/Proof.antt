@@ -2,7 +2,7 @@
 use Prim.Native.Nat.{_+_, _*_}
 use native.Mathlib.Omega.{arith}
 use borrow.Author.Needs.{needs}
-use Rattle.level_lookup.specs.Answers.{level-decides}
+use Rattle.lookup_level.specs.Answers.{level-decides}
 use Rattle.lookup.proofs.look_level.Statement.{statement}
 use Rattle.lookup.proofs.look_level.Tie as tie
 

@@ -3,8 +3,8 @@ use mathlib.Core.Path.{sym, ap, _∙_}
 use borrow.Author.Needs.{needs}
 use Rattle.lookup.specs.Found.{found-of}
 use Rattle.lookup.specs.Lookup.{answered}
-use Rattle.dockets.proofs.Refusals.{allowed-sound}
-use Rattle.level_lookup.proofs.Sound.{readable}
+use Rattle.check_refusal.proofs.Refusals.{allowed-sound}
+use Rattle.lookup_level.proofs.Sound.{readable}
 use Rattle.lookup.proofs.Refused.{refused, looked-up}
 use Rattle.lookup.proofs.lookup.Statement.{statement}
 use Rattle.lookup.proofs.lookup.Tie as tie

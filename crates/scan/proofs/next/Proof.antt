@@ -1,7 +1,7 @@
 -- `scan::next` meets its contract: what an advance of the sweep leaves is what was still to come.
 use borrow.Author.Needs.{needs}
 use Rattle.tables.specs.Words.{Fits32}
-use Rattle.sweep.proofs.Arriving.{advanced-sweeping, advanced-rows}
+use Rattle.scan_sweep.proofs.Arriving.{advanced-sweeping, advanced-rows}
 use Rattle.scan.proofs.next.Statement.{statement}
 use Rattle.scan.proofs.next.Tie as tie
 

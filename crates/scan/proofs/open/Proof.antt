@@ -2,10 +2,10 @@
 use mathlib.Core.Path.{sym, ap, _∙_}
 use borrow.Author.Needs.{needs}
 use Rattle.tables.specs.Words.{Fits32}
-use Rattle.steps.specs.Sweeps.{is-live}
-use Rattle.dockets.proofs.Refusals.{allowed-high}
-use Rattle.sweep.proofs.Arriving.{searched-sweeping, searched-rows}
-use Rattle.sweep.proofs.Opening.{opened-sweeping, opened-rest}
+use Rattle.scan_step.specs.Sweeps.{is-live}
+use Rattle.check_refusal.proofs.Refusals.{allowed-high}
+use Rattle.scan_sweep.proofs.Arriving.{searched-sweeping, searched-rows}
+use Rattle.scan_sweep.proofs.Opening.{opened-sweeping, opened-rest}
 use Rattle.scan.proofs.Refusals.{allowed-readable, opened, unopened}
 use Rattle.scan.proofs.open.Statement.{statement}
 use Rattle.scan.proofs.open.Tie as tie

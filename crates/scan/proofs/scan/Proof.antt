@@ -44,9 +44,9 @@ use denote.Triple.Table.{entered, cited}
 use denote.Triple.Walked.{Walks, walked, goes-slice, goes-dropped, walk-meets}
 use Rattle.lists.proofs.Bools.{by-cases}
 use Rattle.scan.specs.declared.Row.{Row}
-use Rattle.steps.specs.declared.Sweep.{Sweep}
+use Rattle.scan_step.specs.declared.Sweep.{Sweep}
 use Rattle.scan.specs.declared.Scanned.{Scanned}
-use Rattle.dockets.specs.Dockets.{docket-refusal}
+use Rattle.check_refusal.specs.Dockets.{docket-refusal}
 use Rattle.scan.specs.Scan.{Outcome, written, has-row}
 use Rattle.scan.proofs.Filling.{so-far}
 use Rattle.scan.proofs.Reached.{live-rows, Reached, begun, kept-length, has-room, goes-sweeping, stored, turned, ended}
@@ -56,13 +56,13 @@ use Rattle.scan.proofs.Ends.{stayed}
 use Rattle.scan.proofs.Entry.{after, word, number, slice₁, slice₂, slice₅, Locals, Dies, Stored, enters, leaves}
 use Rattle.scan.proofs.Row as T
 use Rattle.scan.proofs.Row.Laws as T′
-use Rattle.steps.proofs.Sweep as S
-use Rattle.steps.proofs.Sweep.Laws as S′
+use Rattle.scan_step.proofs.Sweep as S
+use Rattle.scan_step.proofs.Sweep.Laws as S′
 use Rattle.scan.proofs.Scanned as C
 use Rattle.scan.proofs.Scanned.Laws as C′
-use Rattle.dockets.proofs.docket_refusal.Symbol as docket-refusal-def
-use Rattle.dockets.proofs.docket_refusal.Symbol.{name as #dockets·docket-refusal}
-use Rattle.dockets.proofs.docket_refusal.Met as docket-refusal-thm
+use Rattle.check_refusal.proofs.docket_refusal.Symbol as docket-refusal-def
+use Rattle.check_refusal.proofs.docket_refusal.Symbol.{name as #dockets·docket-refusal}
+use Rattle.check_refusal.proofs.docket_refusal.Met as docket-refusal-thm
 use Rattle.scan.proofs.open.Symbol as open-def
 use Rattle.scan.proofs.open.Symbol.{name as #scan·open}
 use Rattle.scan.proofs.open.Met as open-thm
@@ -288,7 +288,7 @@ scan-spec 𝓤 H 𝓜 𝓖 𝓡 =
     entered 𝓤 H (tripleOf 𝓤 H (𝓖 .A) f.signature (f.spec 𝓤 H (𝓖 .A) (𝓜 .mem) (𝓡 .run)))
     (tables 𝓤 H 𝓜 𝓡 code.env .C) (tables 𝓤 H 𝓜 𝓡 code.env .Λ) #scan·scan code.function (code.unfolded 𝓤 H 𝓜 𝓡)
     (scan-meets 𝓤 H (𝓖 .A) (givenOf 𝓤 H 𝓜 𝓖) (𝓜 .mem) (𝓡 .run) (tablesOf 𝓤 H 𝓜 (tables 𝓤 H 𝓜 𝓡 code.env)) (record {
-      finds-refusal = cited 𝓤 H (DocketRefusal 𝓤 H (𝓖 .A) (𝓜 .mem) (𝓡 .run)) 𝓜 𝓡 code.env #dockets·docket-refusal docket-refusal-def.routine code.calls-dockets·docket-refusal (docket-refusal-thm.met 𝓤 H 𝓜 𝓖 𝓡);
+      finds-refusal = cited 𝓤 H (DocketRefusal 𝓤 H (𝓖 .A) (𝓜 .mem) (𝓡 .run)) 𝓜 𝓡 code.env #dockets·docket-refusal docket-refusal-def.routine code.calls-check-refusal·docket-refusal (docket-refusal-thm.met 𝓤 H 𝓜 𝓖 𝓡);
       open-first = cited 𝓤 H (Open 𝓤 H (𝓖 .A) (𝓜 .mem) (𝓡 .run)) 𝓜 𝓡 code.env #scan·open open-def.routine code.calls-scan·open (open-thm.met 𝓤 H 𝓜 𝓖 𝓡);
       goes-on = cited 𝓤 H (GoesOn 𝓤 H (𝓖 .A) (𝓜 .mem) (𝓡 .run)) 𝓜 𝓡 code.env #scan·goes-on goes-on-def.routine code.calls-scan·goes-on (goes-on-thm.met 𝓤 H 𝓜 𝓖 𝓡);
       row-of = cited 𝓤 H (RowOf 𝓤 H (𝓖 .A) (𝓜 .mem) (𝓡 .run)) 𝓜 𝓡 code.env #scan·row-of row-of-def.routine code.calls-scan·row-of (row-of-thm.met 𝓤 H 𝓜 𝓖 𝓡);

@@ -1,0 +1,68 @@
+-- Calls on the words of a formed state are the model's steps of that state.
+use mathlib.Core.Path.{_≡_, refl, sym, ap, _∙_}
+use mathlib.Core.Bool.{Bool, true, false, cond}
+use mathlib.Core.Logic.{_≢_}
+use mathlib.Core.List.{List, [], _∷_}
+use Prim.Native.Nat.{ℕ}
+use native.Mathlib.Omega.{arith}
+use lib.Dec.{eqb}
+use borrow.Author.Tests.{eqb-true, ne-eqb}
+use Rattle.model.specs.Records.{State}
+use Rattle.model.specs.Calls.{Call, refusing, step, run, answers}
+use Rattle.model.specs.Erasure.{accepted}
+use Rattle.model.proofs.Demands.{refused-unchanged}
+use Rattle.tables.specs.Words.{Fits32, slots-of}
+use Rattle.tables.specs.Sound.{table-refusal}
+use Rattle.tables.specs.Placed.{read-state, entry-words, level-words}
+use Rattle.tables.specs.Formed.{Formed}
+use Rattle.tables.proofs.Back.{formed-holds, written-reads}
+use Rattle.tables.proofs.FormedSound.{words-sound, sound-words}
+use Rattle.tables.proofs.FormedSteps.{step-formed}
+use Rattle.call_tables.specs.Calls.{Tables, Called, words, wrote, call-tables, run-tables, answers-tables}
+
+module _ (n : ℕ) where
+  pub words-slots : (p : State ℕ ℕ) → Formed n p → slots-of (entry-words n p) ≡ n
+  words-slots p f = omega (arith, formed-holds n p f .room)
+
+  pub called-words : (p : State ℕ ℕ) (c : Call ℕ) → Formed n p → call-tables (words n p) c ≡ wrote n (step p c)
+  unfolding call-tables
+  called-words p c f = rw (words-sound n p f, written-reads n p f, words-slots p f)
+
+  -- So for every list.
+  pub run-words : (p : State ℕ ℕ) (cs : List (Call ℕ)) → Formed n p → run-tables (words n p) cs ≡ words n (run p cs)
+  unfolding run-tables run
+  run-words p [] f = refl
+  run-words p (c ∷ cs) f = rw (called-words p c f) (run-words (step p c .state) cs (step-formed n p c f))
+
+  pub answers-words : (p : State ℕ ℕ) (cs : List (Call ℕ)) → Formed n p → answers-tables (words n p) cs ≡ answers p cs
+  unfolding answers-tables answers
+  answers-words p [] f = refl
+  answers-words p (c ∷ cs) f = rw (called-words p c f, answers-words (step p c .state) cs (step-formed n p c f))
+
+-- "Tables … are unchanged, save under 7", for tables of any content.
+module _ (w : Tables) (fits : Fits32 (w .entries)) (c : Call ℕ) where
+  -- Sound tables are the words of what they read as.
+  rewritten : table-refusal (w .entries) (w .levels) ≡ 0 → words (slots-of (w .entries)) (read-state (w .entries) (w .levels)) ≡ w
+  rewritten h =
+      let p : State ℕ ℕ = read-state (w .entries) (w .levels) in
+      let f = sound-words (w .entries) (w .levels) fits h in
+      ap (λ (e : List ℕ). record { entries = e; levels = level-words p }) (sym (f .entries))
+      ∙ ap (λ (l : List ℕ). record { entries = w .entries; levels = l }) (sym (f .levels))
+
+  not-accepted : (p : State ℕ ℕ) → step p c .answer .refusal ≢ 0 → accepted p c ≡ false
+  unfolding accepted
+  not-accepted p h = ne-eqb (step p c .answer .refusal) 0 h
+
+  pub refused-words : call-tables w c .answer .refusal ≢ 0 → call-tables w c .answer .refusal ≢ 7 → call-tables w c .tables ≡ w
+  unfolding call-tables
+  refused-words = go (eqb (table-refusal (w .entries) (w .levels)) 0) refl
+    where
+      choice : Bool → Called
+      choice b = cond b (wrote (slots-of (w .entries)) (step (read-state (w .entries) (w .levels)) c)) (record { tables = w; answer = refusing (table-refusal (w .entries) (w .levels)) })
+
+      go : (b : Bool) → eqb (table-refusal (w .entries) (w .levels)) 0 ≡ b → choice b .answer .refusal ≢ 0 → choice b .answer .refusal ≢ 7 → choice b .tables ≡ w
+      go false q h k = refl
+      go true q h k =
+          let p : State ℕ ℕ = read-state (w .entries) (w .levels) in
+          ap (words (slots-of (w .entries))) (refused-unchanged p c (not-accepted p h) k)
+          ∙ rewritten (eqb-true (table-refusal (w .entries) (w .levels)) 0 q)

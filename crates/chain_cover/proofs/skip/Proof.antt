@@ -1,0 +1,64 @@
+-- `chain_cover::skip` meets its contract. The loop's invariant: the chain from `at` is ordered, and what reaches the docket of it is what does of the chain from `from`.
+use mathlib.Core.Path.{_≡_, refl, sym, ap, _∙_}
+use native.Mathlib.Omega.{arith}
+use lib.ListN.{length}
+use Rattle.tables.specs.Words.{hi-of}
+use Rattle.tables.specs.Sound.{chain-from}
+use Rattle.chain_cover.specs.Walks.{Ordered}
+use Rattle.chain_cover.specs.Skips.{first-slot, reaching}
+use Rattle.chain_cover.proofs.Chains.{go-on, shorter}
+use Rattle.chain_cover.proofs.Skips.{front-end, front-here, front-next}
+use Rattle.chain_cover.proofs.skip.Statement.{statement}
+use Rattle.chain_cover.proofs.skip.Tie as tie
+
+abbrev Inv-loop : tie.InvT-loop
+Inv-loop e from docket at₀ at = Ordered e at × (reaching e docket (chain-from e at) ≡ reaching e docket (chain-from e from))
+
+abbrev μ-loop : tie.MeasureT-loop
+μ-loop e from docket at₀ at = length (chain-from e at)
+
+loop-holds : tie.Need-loop-holds Inv-loop μ-loop
+loop-holds c = (c .before .pre, refl)
+
+hi-of-requires : tie.Need-hi-of-requires Inv-loop μ-loop
+hi-of-requires c κs = go-on _ _ (c .before .loop .inv .0) (c .loop-test .taken) .within
+
+returns : tie.Need-returns Inv-loop μ-loop
+returns c =
+    let on = go-on _ _ (c .before .before .before .loop .inv .0) (c .before .before .loop-test .taken) in
+    let e = c .before .before .before .before .before .args .e .now in
+    sym (front-here e (hi-of e) (c .before .before .before .loop .at) (c .before .before .before .before .before .args .docket) on (omega (arith, c .before .hi-of .ensures))) ∙ ap first-slot (c .before .before .before .loop .inv .1)
+
+next-of-requires : tie.Need-next-of-requires Inv-loop μ-loop
+next-of-requires c κs = go-on _ _ (c .before .before .before .loop .inv .0) (c .before .before .loop-test .taken) .within
+
+loop-less : tie.Need-loop-less Inv-loop μ-loop
+loop-less c =
+    let on = go-on _ _ (c .before .before .before .before .loop .inv .0) (c .before .before .before .loop-test .taken) in
+    rw (c .next-of .ensures) (shorter _ _ on)
+
+loop-again : tie.Need-loop-again Inv-loop μ-loop
+loop-again c =
+    let on = go-on _ _ (c .before .before .before .before .loop .inv .0) (c .before .before .before .loop-test .taken) in
+    let e = c .before .before .before .before .before .before .args .e .now in
+    rw (c .next-of .ensures)
+    (on .rest, sym (front-next e (hi-of e) (c .before .before .before .before .loop .at) (c .before .before .before .before .before .before .args .docket) on (omega (arith, c .before .before .hi-of .ensures))) ∙ c .before .before .before .before .loop .inv .1)
+
+returns-2 : tie.Need-returns-2 Inv-loop μ-loop
+returns-2 c =
+    let a = c .before .before .before .args in
+    ap first-slot (sym (front-end (a .e .now) (hi-of (a .e .now)) (c .before .loop .at) (a .docket) (c .loop-test .left)) ∙ c .before .loop .inv .1)
+
+pub skip-spec : {M : Type 1} → statement M
+skip-spec =
+    tie.close
+    (tie.spec
+    Inv-loop
+    μ-loop
+    loop-holds
+    hi-of-requires
+    returns
+    next-of-requires
+    loop-less
+    loop-again
+    returns-2)

@@ -1,0 +1,30 @@
+-- What each outcome of the code's comparisons tells of the test.
+use mathlib.Core.Path.{_≡_}
+use mathlib.Core.Logic.{_≢_}
+use mathlib.Core.Bool.{false}
+use Prim.Native.Nat.{ℕ, _<_, _≤_}
+use native.Mathlib.Omega.{arith}
+use borrow.Author.Tests.{eq-eqb, ne-eqb, le-leb, lt-leb}
+use lib.Dec.{eqb, leb}
+use Rattle.tables.specs.Placed.{Cell}
+use Rattle.chain_cells.specs.Cells.{cell-lo, cell-hi}
+use Rattle.chain_sieve.specs.Doomed.{doomed}
+use Rattle.chain_sieve.specs.declared.Doomed.{Doomed}
+use Rattle.chain_sieve.specs.declared.Doomed.the-variants.{Deletes, Points, Range}
+
+module _ (which : Doomed) (c : Cell) where
+  pub by-kind : (kind : ℕ) → which ≡ Deletes → kind ≡ c .kind → eqb kind 2 ≡ doomed which c
+  by-kind kind q k = rw (q, k)
+
+module _ (which : Doomed) (c : Cell) (lo hi key : ℕ) (key≡ : key ≡ cell-lo c) where
+  pub before-points : which ≡ Points lo hi → key < lo → false ≡ doomed which c
+  before-points q h = rw (q, lt-leb lo (cell-lo c) (omega arith))
+
+  pub up-to-points : which ≡ Points lo hi → lo ≤ key → leb key hi ≡ doomed which c
+  up-to-points q h = rw (q, key≡, le-leb lo (cell-lo c) (omega arith))
+
+  pub other-range : which ≡ Range lo hi → key ≢ lo → false ≡ doomed which c
+  other-range q h = rw (q, ne-eqb (cell-lo c) lo (λ r. h (omega arith)))
+
+  pub by-range : (last : ℕ) → which ≡ Range lo hi → key ≡ lo → last ≡ cell-hi c → eqb last hi ≡ doomed which c
+  by-range last q h l = rw (q, l, eq-eqb (cell-lo c) lo (omega arith))

@@ -1,0 +1,58 @@
+// Refusals 1 to 4: the soundness check of the two tables, then whether lo and hi are dockets in their order.
+use check_chains::chains_fit;
+use settings::Checked;
+use settings::Settings;
+use table_slots::entries_fit;
+ghost use mathlib.Core.Path.{_≡_};
+ghost use Rattle.tables.specs.Sound.{levels-fit, table-refusal};
+ghost use Rattle.check_refusal.specs.Dockets.{docket-refusal};
+
+fn level_table_fits(l: &[u32]) -> bool
+    ensures { λ r. ⌜ r ≡ levels-fit (now (l .entry)) ⌝ }
+{
+    // Asked first, so that there is a first row to read.
+    if l.len() < 4 {
+        return false;
+    }
+    let Checked::Accepted(s) = Settings::new(l[0], l[1], l[2], l[3]) else {
+        return false;
+    };
+    l.len() == 4 * (s.deepest as usize + 2)
+}
+
+// The number of the refusal that the tables meet, 1 to 3, or 0 where they are sound.
+pub fn table_refusal(entries: &[u32], levels: &[u32]) -> u32
+    ensures { λ r. ⌜ r ≡ table-refusal (now (entries .entry)) (now (levels .entry)) ⌝ }
+{
+    if !entries_fit(entries) {
+        return refusals::ENTRY_LENGTH;
+    }
+    if !level_table_fits(levels) {
+        return refusals::LEVEL_TABLE;
+    }
+    // Made here and lent, so that the loops know only its length.
+    let mut marks = [0u8; 8192];
+    if !chains_fit(entries, levels, &mut marks) {
+        return refusals::CHAINS;
+    }
+    0
+}
+
+const LAST_DOCKET: u32 = 65535;
+
+// The first of the refusals 1 to 4 that a call of the dockets from lo to hi meets, or 0.
+pub fn docket_refusal(entries: &[u32], levels: &[u32], lo: u32, hi: u32) -> u32
+    ensures { λ r. ⌜ r ≡ docket-refusal (now (entries .entry)) (now (levels .entry)) lo hi ⌝ }
+{
+    let refusal = table_refusal(entries, levels);
+    if refusal != 0 {
+        return refusal;
+    }
+    if LAST_DOCKET < hi {
+        return refusals::DOCKET;
+    }
+    if hi < lo {
+        return refusals::DOCKET;
+    }
+    0
+}

@@ -1,2 +1,0 @@
--- Laws of what is due.
-pub mod Due

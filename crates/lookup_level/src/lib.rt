@@ -1,0 +1,68 @@
+// Lookup of one docket in one level, given by its two chains: the points first, then the ranges.
+use chain_cover::is_covered;
+use table_slots::PUT;
+use table_slots::kind_of;
+use table_slots::lo_of;
+use table_slots::next_of;
+use table_slots::stamp_of;
+use table_slots::tally_of;
+ghost use mathlib.Core.Path.{_≡_};
+ghost use mathlib.Core.List.{map};
+ghost use Prim.Native.Nat.{_+_, _*_, _<_};
+ghost use lib.ListN.{length};
+ghost use Rattle.tables.specs.Sound.{chain-from};
+ghost use Rattle.tables.specs.Placed.{read-point};
+ghost use Rattle.chain_cover.specs.Walks.{Ordered};
+ghost use Rattle.lookup_level.specs.Answers.{tells, decides, chain-level, level-decides};
+
+// What one level says: a tally and a stamp, that the docket is absent, or to go deeper.
+pub enum Decided {
+    Value(u32, u32),
+    Absent,
+    Deeper,
+}
+
+// One level, given by its chains: its points first, then its ranges.
+pub fn look_chains(e: &[u32], points: usize, ranges: usize, docket: u32) -> Decided
+    requires { ⌜ Ordered (now e) points ⌝ }
+    requires { ⌜ Ordered (now e) ranges ⌝ }
+    ensures { λ r. ⌜ r ≡ level-decides (chain-level (now (e .entry)) points ranges) docket ⌝ }
+{
+    let by_points = find_point(e, points, docket);
+    if let Decided::Deeper = by_points {
+        if is_covered(e, ranges, docket) {
+            return Decided::Absent;
+        }
+    }
+    by_points
+}
+
+// What the point at a slot decides.
+fn tell(e: &[u32], slot: usize) -> Decided
+    requires { ⌜ 4 * slot + 3 < length (now e) ⌝ }
+    ensures { λ r. ⌜ r ≡ tells (read-point (now (e .entry)) slot .entry) (read-point (now (e .entry)) slot .stamp) ⌝ }
+{
+    if kind_of(e, slot) != PUT {
+        return Decided::Absent;
+    }
+    Decided::Value(tally_of(e, slot), stamp_of(e, slot))
+}
+
+// Walks the points, which ascend, no farther than the docket.
+fn find_point(e: &[u32], head: usize, docket: u32) -> Decided
+    requires { ⌜ Ordered (now e) head ⌝ }
+    ensures { λ r. ⌜ r ≡ decides (map (read-point (now (e .entry))) (chain-from (now (e .entry)) head)) docket ⌝ }
+{
+    let mut at = head;
+    while at != 0 {
+        let key = lo_of(e, at);
+        if docket < key {
+            return Decided::Deeper;
+        }
+        if key == docket {
+            return tell(e, at);
+        }
+        at = next_of(e, at);
+    }
+    Decided::Deeper
+}

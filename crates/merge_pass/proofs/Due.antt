@@ -1,0 +1,58 @@
+-- Whether a level is due, as the code finds it out.
+use mathlib.Core.Path.{_≡_, refl, sym, ap, _∙_}
+use mathlib.Core.Bool.{true, false}
+use mathlib.Core.List.{List}
+use Prim.Native.Nat.{ℕ, _-_, _≤_, _<_}
+use native.Mathlib.Omega.{arith}
+use lib.Dec.{leb}
+use lib.ListN.{getD}
+use borrow.Author.Tests.{lt-ltb, le-ltb, eq-eqb, ne-eqb}
+use Rattle.settings.specs.declared.Settings.{Settings}
+use Rattle.settings.specs.Limits.{capacity, limit}
+use Rattle.settings.specs.Checked.{inner}
+use Rattle.settings.proofs.Allowed.{inner-true}
+use Rattle.model.specs.Records.{Level, level}
+use Rattle.model.specs.Steps.{buffer-due, due}
+use Rattle.tables.specs.Words.{Row, settings-of, level-row}
+use Rattle.tables.specs.Placed.{row-of-level}
+use Rattle.merge_levels.specs.Laid.{Store, Laid}
+use Rattle.merge_pass.specs.Due.{due-row}
+use Rattle.merge_levels.proofs.Store.{laid-settings, laid-allowed, laid-row, laid-formed}
+
+module _ (settings : Settings) (t i : ℕ) (r : Row) where
+  pub due-over : capacity settings i < r .w2 → true ≡ due-row settings t i r
+  due-over h = rw (lt-ltb (capacity settings i) (r .w2) h)
+
+  pub due-owing-none : r .w2 ≤ capacity settings i → r .w3 ≡ 0 → false ≡ due-row settings t i r
+  due-owing-none h z = rw (le-ltb (capacity settings i) (r .w2) h, eq-eqb (r .w3) 0 z)
+
+  pub due-owing : r .w2 ≤ capacity settings i → (r .w3 ≡ 0 → ⊥) → leb (limit settings i) (t - r .w3) ≡ due-row settings t i r
+  due-owing h z = rw (le-ltb (capacity settings i) (r .w2) h, ne-eqb (r .w3) 0 z)
+
+-- A level's row tells whether the level is due.
+row-due : (settings : Settings) (t i : ℕ) (v : Level ℕ ℕ) → due-row settings t i (row-of-level v) ≡ due settings t i v
+unfolding due
+row-due settings t i v = refl
+
+pub laid-due : (g : Store) (e l : List ℕ) → Laid g e l → (t i : ℕ) → i ≤ g .state .settings .deepest
+    → due-row (settings-of l) t i (level-row l i) ≡ due (g .state .settings) t i (level i (g .state))
+laid-due g e l laid t i h =
+    ap (λ (s : Settings). due-row s t i (level-row l i)) (laid-settings g e l laid) ∙ ap (due-row (g .state .settings) t i) (laid-row g e l laid i h)
+    ∙ row-due (g .state .settings) t i (level i (g .state))
+
+module _ (g : Store) (e l : List ℕ) (laid : Laid g e l) where
+  -- "if the buffer has B records or more"
+  pub laid-buffer-due : buffer-due (g .state) ≡ leb (getD l 2 0) (level-row l 0 .w2)
+  unfolding buffer-due
+  laid-buffer-due =
+      sym (ap (λ (s : Settings). leb (s .buffer) (level-row l 0 .w2)) (laid-settings g e l laid)
+      ∙ ap (λ (r : Row). leb (g .state .settings .buffer) (r .w2)) (laid-row g e l laid 0 (omega arith)))
+
+  -- What the test asks of a level: that it has a capacity and a limit, and owes from no later than the clock.
+  pub laid-inner : (i : ℕ) → 1 ≤ i → i < g .state .settings .deepest → inner (settings-of l) i ≡ true
+  laid-inner i low high =
+      ap (λ (s : Settings). inner s i) (laid-settings g e l laid)
+      ∙ inner-true (g .state .settings) i (record { settings = laid-allowed g e l laid; level-low = low; level-high = high })
+
+  pub laid-owed : (i : ℕ) → i ≤ g .state .settings .deepest → level-row l i .w3 ≤ g .time
+  laid-owed i h = omega (arith, ap (λ (r : Row). r .w3) (laid-row g e l laid i h), laid-formed g e l laid i .owed-clock)

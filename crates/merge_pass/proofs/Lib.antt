@@ -1,0 +1,3 @@
+-- Laws of what is due.
+pub mod Due
+pub mod Passing

@@ -1,0 +1,140 @@
+-- `merge_pass::pass` meets its contract. The loop's invariant: the pass from level i on leads to what the whole pass leads to.
+use borrow.Author.Needs.{needs}
+use mathlib.Core.Path.{_≡_, refl, sym}
+use Prim.Native.Nat.{ℕ, _+_, _-_, _<_, _≤_}
+use native.Mathlib.Omega.{arith}
+use lib.ListN.{length}
+use Rattle.model.specs.Steps.{Work, begin, pass-level, pass}
+use Rattle.merge_levels.specs.Laid.{Store, Laid, Worked}
+use Rattle.merge_levels.proofs.Store.{laid-length, laid-deepest, laid-allowed}
+use Rattle.merge_levels.proofs.Turns.{Reached, reached-store, reached-level, few-more, reached-next, reached-end}
+use Rattle.merge_pass.proofs.Passing.{pass-counts, pass-begun}
+use Rattle.merge_pass.proofs.pass.Statement.{statement}
+use Rattle.merge_pass.proofs.pass.Tie as tie
+
+abbrev Inv-loop : tie.InvT-loop
+Inv-loop e₀ l₀ clock deepest merges₀ i₀ e l merges i =
+    (length e ≡ length e₀) × (length l ≡ length l₀) × (1 ≤ i)
+    × ((g : Store) (goal : Work ℕ ℕ) → g .time ≡ clock → g .state .settings .deepest ≡ deepest
+    → Reached (pass-level clock) goal g e₀ l₀ merges₀ i₀ → Reached (pass-level clock) goal g e l merges i)
+
+abbrev μ-loop : tie.MeasureT-loop
+μ-loop e₀ l₀ clock deepest merges₀ i₀ e l merges i = deepest - i
+
+-- A store that the tables hold at the entry, at this clock.
+abbrev AtEntry : tie.Start Inv-loop μ-loop → Store → Type 0
+AtEntry c g = Laid g (c .args .e .now) (c .args .l .now) × (g .time ≡ c .args .clock)
+
+slice-read-deepest : tie.Need-slice-read-deepest Inv-loop μ-loop
+slice-read-deepest c = let start = c .before .before .before in omega (arith, laid-length (start .pre .value) (start .args .e .now) (start .args .l .now) (start .pre .has .0))
+
+cast-deepest : tie.Need-cast-deepest Inv-loop μ-loop
+cast-deepest c = omega (arith, c .slice-known3 .given 0)
+
+pass-buffer-requires : tie.Need-pass-buffer-requires Inv-loop μ-loop
+pass-buffer-requires c κs = let start = c .before .before .before .before .before in record { value = start .pre .value; has = start .pre .has .0 }
+
+loop-holds : tie.Need-loop-holds Inv-loop μ-loop
+loop-holds c = (refl, refl, omega arith, λ g goal now deep w. w)
+
+abbrev entry : tie.At-loop Inv-loop μ-loop → tie.Start Inv-loop μ-loop
+entry c = c .before .before .before .before .before .before .before .before .before .before .before
+
+-- The pass of every such store has gone on to level i.
+reached : (c : tie.At-loop Inv-loop μ-loop) (g : Store) → AtEntry (entry c) g
+    → Reached (pass-level (entry c .args .clock)) (pass (entry c .args .clock) (begin (g .state))) g (c .loop .e) (c .loop .l) (c .loop .merges) (c .loop .i)
+reached c g h =
+    let a = entry c .args in
+    let buffer = c .before .before .before .before .before .pass-buffer in
+    c .loop .inv .3 g (pass (a .clock) (begin (g .state))) (h .1) (sym (laid-deepest g (a .e .now) (a .l .now) (h .0)))
+    (pass-begun (a .clock) g (buffer .last .0) (buffer .last .1 .0) (buffer .result)
+    (omega (arith, laid-allowed g (a .e .now) (a .l .now) (h .0))) (buffer .ensures g (h .0)))
+
+-- A turn's level is above the deepest of every such store.
+in-turn : (c : tie.In-loop Inv-loop μ-loop) (g : Store) → AtEntry (entry (c .before)) g → c .before .loop .i < g .state .settings .deepest
+in-turn c g h = let a = entry (c .before) .args in omega (arith, c .loop-test .taken, laid-deepest g (a .e .now) (a .l .now) (h .0))
+
+pass-level-requires : tie.Need-pass-level-requires Inv-loop μ-loop
+pass-level-requires c κs =
+    let at = c .before .before .before in
+    let g = entry at .pre .value in
+    let h = entry at .pre .has in
+    let w = reached at g h in
+    record { value = reached-store w; has = (w .worked .laid, h .1, at .loop .inv .2, reached-level w (in-turn (c .before .before) g h)) }
+
+abbrev turn : tie.After-pass-level Inv-loop μ-loop → tie.At-loop Inv-loop μ-loop
+turn c = c .before .before .before .before
+
+abbrev clock-of : tie.After-pass-level Inv-loop μ-loop → ℕ
+clock-of c = entry (turn c) .args .clock
+
+-- What a turn has done to every store on its way, at this clock.
+done : (c : tie.After-pass-level Inv-loop μ-loop) (g : Store) (goal : Work ℕ ℕ) → g .time ≡ clock-of c → turn c .loop .i < g .state .settings .deepest
+    → (w : Reached (pass-level (clock-of c)) goal g (turn c .loop .e) (turn c .loop .l) (turn c .loop .merges) (turn c .loop .i))
+    → Worked (reached-store w) (pass-level (clock-of c) (turn c .loop .i) (begin (w .work .state))) (c .pass-level .last .0) (c .pass-level .last .1 .0) (c .pass-level .result)
+done c g goal now high w = c .pass-level .ensures (reached-store w) (w .worked .laid) now (turn c .loop .inv .2) (reached-level w high)
+
+-- The level of a turn is one of the first six, and there are no more merges than levels.
+shallow : (c : tie.In-loop Inv-loop μ-loop) → c .before .loop .i < 6
+shallow c =
+    let start = entry (c .before) in
+    omega (arith, in-turn c (start .pre .value) (start .pre .has), laid-allowed (start .pre .value) (start .args .e .now) (start .args .l .now) (start .pre .has .0))
+
+few : (c : tie.After-pass-level Inv-loop μ-loop) → turn c .loop .merges + c .pass-level .result ≤ turn c .loop .i + 1
+few c =
+    let g = entry (turn c) .pre .value in
+    let h = entry (turn c) .pre .has in
+    let w = reached (turn c) g h in
+    let high = in-turn (c .before .before .before) g h in
+    few-more (pass-counts (clock-of c)) w high (done c g (pass (clock-of c) (begin (g .state))) (h .1) high w)
+
+add-merges : tie.Need-add-merges Inv-loop μ-loop
+add-merges c = omega (arith, few (c .before .before .before .before), shallow (c .before .before .before .before .before .before .before))
+
+add-i : tie.Need-add-i Inv-loop μ-loop
+add-i c = omega (arith, shallow (c .before .before .before .before .before .before .before))
+
+loop-less : tie.Need-loop-less Inv-loop μ-loop
+loop-less c = omega arith
+
+loop-again : tie.Need-loop-again Inv-loop μ-loop
+loop-again c = (
+  search needs,
+  search needs,
+  omega arith,
+  λ g goal now deep w₀.
+      let past = c .before .before .before .before in
+      let w = turn past .loop .inv .3 g goal now deep w₀ in
+      let high : turn past .loop .i < g .state .settings .deepest = omega (arith, c .before .before .before .before .before .before .before .loop-test .taken) in
+      reached-next (pass-counts (clock-of past)) w high (done past g goal now high w),
+)
+
+same-length : tie.Need-same-length Inv-loop μ-loop
+same-length c = search needs
+
+same-length-2 : tie.Need-same-length-2 Inv-loop μ-loop
+same-length-2 c = search needs
+
+returns : tie.Need-returns Inv-loop μ-loop
+returns c = λ g laid now.
+    let a = entry (c .before) .args in
+    reached-end (reached (c .before) g (laid, now)) (omega (arith, c .loop-test .left, laid-deepest g (a .e .now) (a .l .now) laid))
+
+pub pass-spec : {M : Type 1} → statement M
+pass-spec =
+    tie.close
+    (tie.spec
+    Inv-loop
+    μ-loop
+    slice-read-deepest
+    cast-deepest
+    pass-buffer-requires
+    loop-holds
+    pass-level-requires
+    add-merges
+    add-i
+    loop-less
+    loop-again
+    same-length
+    same-length-2
+    returns)

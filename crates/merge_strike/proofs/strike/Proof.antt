@@ -1,0 +1,49 @@
+-- `merge_strike::strike` meets its contract. The loop's invariant: whatever chains met at the start, striking them has come to `m`.
+use mathlib.Core.Path.{_≡_, refl}
+use borrow.Author.Needs.{needs}
+use lib.ListN.{length}
+use Rattle.merge_strike.specs.Striking.{Meeting, MeetingHeld, Striking, left-of}
+use Rattle.merge_strike.proofs.Strikes.{strike-of, striking-begins, striking-ends}
+use Rattle.merge_strike.proofs.strike.Statement.{statement}
+use Rattle.merge_strike.proofs.strike.Tie as tie
+
+abbrev Inv-loop : tie.InvT-loop
+Inv-loop e₀ lower points ranges m₀ e m = (length e ≡ length e₀) × ((g : Meeting) → MeetingHeld g e₀ lower points ranges → Striking (strike-of g) e m)
+
+abbrev μ-loop : tie.MeasureT-loop
+μ-loop e₀ lower points ranges m₀ e m = left-of e m
+
+loop-holds : tie.Need-loop-holds Inv-loop μ-loop
+loop-holds c = (refl, λ g h. striking-begins g _ _ _ _ h)
+
+strike-step-requires : tie.Need-strike-step-requires Inv-loop μ-loop
+strike-step-requires c κs =
+    let h = c .before .before .before .before .before .pre in
+    (record { value = strike-of (h .value); has = c .before .before .before .loop .inv .1 (h .value) (h .has) }, c .before .if1 .taken)
+
+loop-less : tie.Need-loop-less Inv-loop μ-loop
+loop-less c =
+    let h = c .before .before .before .before .before .before .before .before .pre in
+    c .before .before .strike-step .ensures (strike-of (h .value)) (c .before .before .before .before .before .before .loop .inv .1 (h .value) (h .has)) .1
+
+loop-again : tie.Need-loop-again Inv-loop μ-loop
+loop-again c = (search needs, λ g h. c .before .before .strike-step .ensures (strike-of g) (c .before .before .before .before .before .before .loop .inv .1 g h) .0)
+
+same-length : tie.Need-same-length Inv-loop μ-loop
+same-length c = search needs
+
+returns : tie.Need-returns Inv-loop μ-loop
+returns c = λ g h. striking-ends g _ _ (c .before .before .before .loop .inv .1 g h) (c .before .if1 .left)
+
+pub strike-spec : {M : Type 1} → statement M
+strike-spec =
+    tie.close
+    (tie.spec
+    Inv-loop
+    μ-loop
+    loop-holds
+    strike-step-requires
+    loop-less
+    loop-again
+    same-length
+    returns)

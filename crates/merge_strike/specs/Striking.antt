@@ -1,0 +1,84 @@
+-- Lower points held against an upper level's points and ranges.
+use mathlib.Core.Path.{_≡_}
+use mathlib.Core.Bool.{Bool, _||_}
+use mathlib.Core.List.{List, _∷_, _++_}
+use Prim.Native.Nat.{ℕ}
+use Rattle.lists.specs.All.{All}
+use Rattle.tables.specs.Placed.{Cell, head}
+use Rattle.chain_cells.specs.Cells.{cell-lo, any-over}
+use Rattle.chain_cells.specs.Held.{Held}
+use Rattle.chain_cells.specs.Sifting.{Sift, Sifting, Chain, Sifted, left-at}
+use Rattle.chain_cells.specs.Order.{CellsOrdered}
+use Rattle.chain_cells.specs.declared.Cursor.{Cursor}
+use Rattle.merge_strike.specs.declared.Progress.{Progress}
+
+-- "A point of i+1 goes if i has a point of that docket or a range over it."
+abbrev pub goes-under : List Cell → List Cell → Cell → Bool
+goes-under points ranges c = any-over points (cell-lo c) || any-over ranges (cell-lo c)
+
+-- The lower points, the upper points and ranges that they meet, and all that is beside them.
+pub record Meeting : Type 0 where
+  pub slots : ℕ
+  pub clock : ℕ
+  pub free : List ℕ
+  pub lower : List Cell
+  pub points : List Cell
+  pub ranges : List Cell
+  pub others : List (List Cell)
+
+pub record MeetingHeld (g : Meeting) (e : List ℕ) (lower points ranges : ℕ) : Type 0 where
+  pub held : Held (g .slots) (g .clock) (g .free) (g .lower ∷ g .points ∷ g .ranges ∷ g .others) e
+  pub lower-is : lower ≡ head (g .lower)
+  pub points-is : points ≡ head (g .points)
+  pub ranges-is : ranges ≡ head (g .ranges)
+  pub lower-ordered : CellsOrdered (g .lower)
+  pub points-ordered : CellsOrdered (g .points)
+  pub ranges-ordered : CellsOrdered (g .ranges)
+
+abbrev pub lower-chain : Meeting → Chain
+lower-chain g = record { slots = g .slots; clock = g .clock; free = g .free; cells = g .lower; others = g .points ∷ g .ranges ∷ g .others }
+
+abbrev pub Struck : Meeting → List ℕ → Cursor → Type 0
+Struck g e m = Sifted (goes-under (g .points) (g .ranges)) (lower-chain g) e m
+
+-- What is to be left of the lower points and of the free slots, how many points go, the upper points and ranges, and all that is beside them.
+pub record Strike : Type 0 where
+  pub slots : ℕ
+  pub clock : ℕ
+  pub kept : List Cell
+  pub free : List ℕ
+  pub gone : ℕ
+  pub points : List Cell
+  pub ranges : List Cell
+  pub others : List (List Cell)
+
+abbrev pub sift-under : Strike → Sift
+sift-under g = record {
+  slots = g .slots;
+  clock = g .clock;
+  test = goes-under (g .points) (g .ranges);
+  kept = g .kept;
+  free = g .free;
+  gone = g .gone;
+  others = g .points ∷ g .ranges ∷ g .others;
+}
+
+-- A slot stands where the rest of an upper chain begins, which is over the docket of a lower point that is left just where the whole chain is.
+pub record Standing (cells lower : List Cell) (at : ℕ) : Type 0 where
+  pub passed : List Cell
+  pub rest : List Cell
+  pub whole : passed ++ rest ≡ cells
+  pub at-is : at ≡ head rest
+  pub says : All (λ c. any-over rest (cell-lo c) ≡ any-over cells (cell-lo c)) lower
+
+pub record Striking (g : Strike) (e : List ℕ) (m : Progress) : Type 0 where
+  pub sifting : Sifting (sift-under g) e (m .cursor)
+  pub lower-ordered : CellsOrdered (sifting .left)
+  pub points-ordered : CellsOrdered (g .points)
+  pub ranges-ordered : CellsOrdered (g .ranges)
+  pub points-at : Standing (g .points) (sifting .left) (m .points)
+  pub ranges-at : Standing (g .ranges) (sifting .left) (m .ranges)
+
+-- How many lower points have still to be seen.
+abbrev pub left-of : List ℕ → Progress → ℕ
+left-of e m = left-at e (m .cursor)

@@ -1,2 +1,0 @@
--- Laws of the pass: what it does to the levels that are due.
-pub mod Passing

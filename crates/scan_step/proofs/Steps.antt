@@ -1,0 +1,176 @@
+-- A step of a sweep: what the least record to come says of its docket, and that passing it leaves what is to come of the others.
+use mathlib.Core.Path.{_≡_, refl, sym, ap, _∙_, subst}
+use mathlib.Core.Logic.{_≢_}
+use mathlib.Core.Bool.{Bool, cond}
+use mathlib.Core.List.{List}
+use Prim.Native.Nat.{ℕ, suc, _+_, _<_, _≤_}
+use native.Mathlib.Omega.{arith}
+use borrow.Author.Tests.{ne-eqb, eqb-true, eqb-false, ltb-true, ltb-false, leb-true, leb-false}
+use lib.Dec.{eqb, ltb, leb}
+use Rattle.lists.proofs.Bools.{by-cases, cond-elim}
+use Rattle.model.specs.Lookup.{absent, reads, add-row, lookup, live}
+use Rattle.tables.specs.Words.{Fits32, next-of, kind-of, lo-of, stamp-of}
+use Rattle.tables.specs.Placed.{read-point}
+use Rattle.lookup_level.proofs.Walks.{points-say, points-here, points-next}
+use Rattle.scan_heads.specs.Heads.{passed, point, left}
+use Rattle.scan_heads.proofs.Packs.{key-on}
+use Rattle.scan_heads.proofs.Passing.{points-least, points-later, slot-key, slot-on, level-inside, passed-fits, passed-later, passed-fewer, point-first, point-passed}
+use Rattle.scan_fences.specs.Fences.{over}
+use Rattle.scan_step.specs.declared.Sweep.{Sweep}
+use Rattle.scan_step.specs.Sweeps.{range-at, to-come, next-key, next-level, Sweeping, told, moved, gone, neared, rest, listed, Stepped}
+use Rattle.scan_step.proofs.Branches.{gone-before, gone-covered, gone-delete, gone-found, neared-none, neared-fenced, neared-gone}
+use Rattle.scan_step.proofs.Live.{live-same, live-none, live-pass}
+use Rattle.scan_step.proofs.Coming.{points-before, absent-all, says-at, looks-same, decides-same}
+
+-- The same to come, whether the sweep is on its way or has come to a docket.
+pub told-sweeping : {e : List ℕ} {m : Sweep} {going alive key value stamp : ℕ} → Sweeping e m → Sweeping e (told m going alive key value stamp)
+told-sweeping s = record { points = s .points; ranges = s .ranges; covers = s .covers; last = s .last }
+
+module _ {e : List ℕ} {m : Sweep} (words : Fits32 e) (s : Sweeping e m) where
+  abbrev k : ℕ
+  k = next-key m
+
+  -- Nothing is to come before the first record's docket.
+  pub nothing-before : (j : ℕ) → j < k → lookup (to-come e m) j ≡ absent
+  nothing-before j lt =
+      absent-all e (point (m .heads)) (m .ranges) j (m .levels) 0
+      (λ i a b.
+      let least = points-least (s .points) i (omega arith) in
+      points-before e words (point (m .heads) i) j (least .0) (omega (arith, least .1)))
+
+  pub stepped-none : m .hi < k → Stepped e m (told m 0 0 (m .key) (m .value) (m .stamp))
+  stepped-none past = record {
+    sweeping = told-sweeping s;
+    leads = live-none (lookup (to-come e m)) (m .from) k (m .hi) (λ j a b. nothing-before j b) past;
+    fewer = λ g. absurd (g refl);
+  }
+
+  module _ (le : k ≤ m .hi) where
+    low : k < 65536
+    low = omega (arith, s .last)
+
+    abbrev slot : ℕ
+    slot = m .heads .slot
+
+    key-here : lo-of e slot ≡ k
+    key-here = sym (key-on e slot (slot-on (s .points) low)) ∙ slot-key (s .points)
+
+    -- The docket is absent if a level above has a range over it; else the record tells.
+    says-here : lookup (to-come e m) k ≡ cond (over e (m .ranges) k (next-level m) 0) absent (reads (read-point e slot .entry) (stamp-of e slot))
+    says-here =
+        says-at e (point (m .heads)) (m .ranges) k (next-level m) (read-point e slot .entry) (stamp-of e slot)
+        (rw (point-first (s .points) low) (points-here e slot k (slot-on (s .points) low) key-here))
+        (next-level m) (m .levels) 0 (omega arith) (level-inside (s .points) low)
+        (λ i a b.
+        let inside = level-inside (s .points) low in
+        points-before e words (point (m .heads) i) k (points-least (s .points) i (omega arith) .0) (points-later (s .points) low i (omega arith) b))
+
+    abbrev after : ℕ → Sweep
+    after from = moved m (passed e (m .heads)) from
+
+    -- Of another docket the same is to come.
+    passed-looks : (j : ℕ) → j ≢ k → lookup (to-come e (after 0)) j ≡ lookup (to-come e m) j
+    passed-looks j other =
+        looks-same e (point (m .heads)) (range-at (m .ranges)) (point (passed e (m .heads))) (range-at (m .ranges)) j (m .levels)
+        (λ i lt. decides-same e (point (m .heads) i) (range-at (m .ranges) i) (point (passed e (m .heads)) i) (range-at (m .ranges) i) j (says i) refl)
+      where
+        says : (i : ℕ) → points-say e (point (passed e (m .heads)) i) j ≡ points-say e (point (m .heads) i) j
+        says i =
+            rw (point-passed (s .points) low i)
+            (cond-elim (λ h. points-say e h j ≡ points-say e (point (m .heads) i) j) (eqb (next-level m) i) (next-of e slot) (point (m .heads) i)
+            (λ t. rw (← eqb-true (next-level m) i t, point-first (s .points) low)
+            (sym (points-next e slot j (slot-on (s .points) low) (λ q. other (sym q ∙ key-here)))))
+            (λ t. refl))
+
+    moved-sweeping : (from : ℕ) → Sweeping e (after from)
+    moved-sweeping from = record {
+      points = passed-fits (s .points) low;
+      ranges = s .ranges;
+      covers = λ j n a b c. s .covers j n (omega (arith, passed-later (s .points) low words)) b c;
+      last = s .last;
+    }
+
+    fewer : left e (passed e (m .heads)) < left e (m .heads)
+    fewer = passed-fewer (s .points) low
+
+    -- A record of its docket was passed before.
+    stepped-before : k < m .from → Stepped e m (after (m .from))
+    stepped-before lt = record {
+      sweeping = moved-sweeping (m .from);
+      leads = live-same (lookup (to-come e m)) (lookup (to-come e (after 0))) (m .from) (m .hi) (λ j a. sym (passed-looks j (λ q. omega arith)));
+      fewer = λ _. fewer;
+    }
+
+    module _ (from : m .from ≤ k) where
+      -- The docket's row, if it is live, and then those past it.
+      rest-passed : rest e m ≡ add-row k (lookup (to-come e m) k) (rest e (after (k + 1)))
+      rest-passed =
+          live-pass (lookup (to-come e m)) (m .from) k (m .hi) (λ j a b. nothing-before j b) from le
+          ∙ ap (add-row k (lookup (to-come e m) k))
+          (live-same (lookup (to-come e m)) (lookup (to-come e (after 0))) (k + 1) (m .hi) (λ j a. sym (passed-looks j (λ q. omega arith))))
+
+      stepped-on : lookup (to-come e m) k ≡ absent → Stepped e m (after (k + 1))
+      stepped-on q = record { sweeping = moved-sweeping (k + 1); leads = rest-passed ∙ rw q; fewer = λ _. fewer }
+
+    -- However its docket stands, passing the first record is a step.
+    pub gone-stepped : (covered : Bool) → covered ≡ over e (m .ranges) k (next-level m) 0 → Stepped e m (gone e m covered)
+    gone-stepped covered is = by-cases (ltb k (m .from))
+        (λ t.
+        let lt = ltb-true k (m .from) t in
+        subst (Stepped e m) (sym (gone-before e m covered lt)) (stepped-before lt))
+        (λ t.
+        let from = ltb-false k (m .from) t in
+        by-cases covered
+        (λ c. subst (Stepped e m) (sym (gone-covered e m covered from c)) (stepped-on from (says-here ∙ rw (← is, c))))
+        (λ c. by-cases (eqb (kind-of e slot) 1)
+        (λ u. subst (Stepped e m) (sym (gone-found e m covered from c (eqb-true (kind-of e slot) 1 u)))
+        (record {
+          sweeping = told-sweeping (moved-sweeping (k + 1));
+          leads = rest-passed from ∙ rw (says-here, ← is, c, u);
+          fewer = λ g. absurd (g refl);
+        }))
+        (λ u. subst (Stepped e m) (sym (gone-delete e m covered from c (eqb-false (kind-of e slot) 1 u))) (stepped-on from (says-here ∙ rw (← is, c, u))))))
+
+    -- Before the fence the cover tells.
+    near-gone : k < m .fence → Stepped e m (gone e m (ltb (m .cover) (next-level m)))
+    near-gone lt =
+        let inside = level-inside (s .points) low in
+        gone-stepped (ltb (m .cover) (next-level m)) (sym (s .covers k (next-level m) (omega arith) lt (omega arith)))
+
+  -- A step before the fence; at the fence the sweep is still where it was.
+  pub near-stepped : k < m .fence → Stepped e m (neared e m)
+  near-stepped lt = by-cases (ltb (m .hi) k)
+      (λ t.
+      let past = ltb-true (m .hi) k t in
+      subst (Stepped e m) (sym (neared-none e m past)) (stepped-none past))
+      (λ t.
+      let le = ltb-false (m .hi) k t in
+      subst (Stepped e m) (sym (neared-gone e m le lt)) (near-gone le lt))
+
+  abbrev Leads : Sweep → Type 0
+  Leads r = Sweeping e r × (rest e m ≡ listed e r)
+
+  pub near-leads : Leads (neared e m)
+  near-leads = by-cases (leb (m .fence) k)
+      (λ t. by-cases (ltb (m .hi) k)
+      (λ u.
+      let past = ltb-true (m .hi) k u in
+      subst Leads (sym (neared-none e m past)) (told-sweeping s, stepped-none past .leads))
+      (λ u. subst Leads (sym (neared-fenced e m (ltb-false (m .hi) k u) (leb-true (m .fence) k t))) (told-sweeping s, refl)))
+      (λ t.
+      let st = near-stepped (leb-false (m .fence) k t) in
+      (st .sweeping, st .leads))
+
+-- How many more steps there may be.
+abbrev pub steps-left : List ℕ → Sweep → ℕ
+steps-left e m = cond (eqb (m .going) 0) 0 (suc (left e (m .heads)))
+
+module _ {e : List ℕ} {m r : Sweep} (st : Stepped e m r) (goes : m .going ≢ 0) where
+  pub listed-same : listed e r ≡ listed e m
+  listed-same = rw (ne-eqb (m .going) 0 goes) (sym (st .leads))
+
+  pub fewer-steps : steps-left e r < steps-left e m
+  fewer-steps =
+      rw (ne-eqb (m .going) 0 goes)
+      (cond-elim (λ n. n < suc (left e (m .heads))) (eqb (r .going) 0) 0 (suc (left e (r .heads)))
+      (λ g. omega arith) (λ g. omega (arith, st .fewer (eqb-false (r .going) 0 g))))

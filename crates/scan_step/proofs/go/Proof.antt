@@ -1,0 +1,81 @@
+-- `scan_step::go` meets its contract: the record is passed, and each way out is a branch of the definition.
+use mathlib.Core.Path.{sym, _∙_}
+use native.Mathlib.Omega.{arith}
+use borrow.Author.Needs.{needs}
+use Rattle.scan_heads.proofs.Passing.{slot-ordered, slot-some, slot-on}
+use Rattle.scan_step.proofs.Branches.{gone-before, gone-covered, gone-delete, gone-found}
+use Rattle.scan_step.proofs.go.Statement.{statement}
+use Rattle.scan_step.proofs.go.Tie as tie
+
+key-of-requires : tie.Need-key-of-requires
+key-of-requires c κs = search needs
+
+pass-requires : tie.Need-pass-requires
+pass-requires c κs =
+    let p = c .before .before .before .pre in
+    (slot-ordered (p .0 .points), slot-some (p .0 .points) (omega (arith, p .0 .last, p .1)))
+
+returns : tie.Need-returns
+returns c =
+    let k = c .before .before in
+    let a = k .before .before .before .before .args in
+    rw (k .pass .ensures) (sym (gone-before (a .e .now) (a .m) (a .covered) (rw (k .before .key-of .ensures) at (c .if1 .taken))))
+
+add-r : tie.Need-add-r
+add-r c = search needs
+
+returns-2 : tie.Need-returns-2
+returns-2 c =
+    let k = c .before .before .before in
+    let a = k .before .before .before .before .args in
+    rw (k .pass .ensures, k .before .key-of .ensures)
+    (sym (gone-covered (a .e .now) (a .m) (a .covered) (rw (k .before .key-of .ensures) at (c .before .if1 .left)) (c .if2 .taken)))
+
+kind-of-requires : tie.Need-kind-of-requires
+kind-of-requires c κs =
+    let p = c .before .before .before .before .before .before .before .pre in
+    slot-on (p .0 .points) (omega (arith, p .0 .last, p .1)) .within
+
+returns-3 : tie.Need-returns-3
+returns-3 c =
+    let t = c .before .before in
+    let k = t .before .before .before in
+    let a = k .before .before .before .before .args in
+    rw (k .pass .ensures, k .before .key-of .ensures)
+    (sym (gone-delete (a .e .now) (a .m) (a .covered) (rw (k .before .key-of .ensures) at (t .before .if1 .left)) (t .if2 .left)
+    (λ q. c .if3 .taken (c .before .kind-of .ensures ∙ q))))
+
+tally-of-requires : tie.Need-tally-of-requires
+tally-of-requires c κs =
+    let p = c .before .before .before .before .before .before .before .before .before .pre in
+    slot-on (p .0 .points) (omega (arith, p .0 .last, p .1)) .within
+
+stamp-of-requires : tie.Need-stamp-of-requires
+stamp-of-requires c κs =
+    let p = c .before .before .before .before .before .before .before .before .before .before .pre in
+    slot-on (p .0 .points) (omega (arith, p .0 .last, p .1)) .within
+
+returns-4 : tie.Need-returns-4
+returns-4 c =
+    let u = c .before .before in
+    let t = u .before .before in
+    let k = t .before .before .before in
+    let a = k .before .before .before .before .args in
+    rw (k .pass .ensures, k .before .key-of .ensures, c .before .tally-of .ensures, c .stamp-of .ensures)
+    (sym (gone-found (a .e .now) (a .m) (a .covered) (rw (k .before .key-of .ensures) at (t .before .if1 .left)) (t .if2 .left)
+    (sym (u .before .kind-of .ensures) ∙ u .if3 .left)))
+
+pub go-spec : {M : Type 1} → statement M
+go-spec =
+    tie.close
+    (tie.spec
+    key-of-requires
+    pass-requires
+    returns
+    add-r
+    returns-2
+    kind-of-requires
+    returns-3
+    tally-of-requires
+    stamp-of-requires
+    returns-4)

@@ -1,0 +1,97 @@
+-- A sweep over the levels: what it still has to come, the rows of the live dockets among it, and a step.
+use mathlib.Core.Path.{_≡_}
+use mathlib.Core.Logic.{_≢_}
+use mathlib.Core.Bool.{Bool, cond, _||_, not}
+use mathlib.Core.List.{List, [], _∷_}
+use Prim.Native.Nat.{ℕ, zero, suc, _+_, _<_, _≤_}
+use lib.Dec.{eqb, leb, ltb}
+use lib.ListN.{getD}
+use Rattle.model.specs.Lookup.{Row, lookup, live}
+use Rattle.model.specs.Records.{Level}
+use Rattle.tables.specs.Words.{kind-of, tally-of, stamp-of}
+use Rattle.lookup_level.specs.Answers.{chain-level}
+use Rattle.scan_heads.specs.declared.Heads.{Heads}
+use Rattle.scan_heads.specs.Heads.{key-of, level-of, passed, point, left, Fits}
+use Rattle.scan_fences.specs.Fences.{Ready, over}
+use Rattle.scan_step.specs.declared.Sweep.{Sweep}
+
+-- What n levels from level i on have to come, where p and r tell the first point and the first range of each.
+unfoldable pub levels-from : List ℕ → (ℕ → ℕ) → (ℕ → ℕ) → ℕ → ℕ → List (Level ℕ ℕ)
+levels-from e p r zero i = []
+levels-from e p r (suc n) i = chain-level e (p i) (r i) ∷ levels-from e p r n (suc i)
+
+-- The first range that level i of a list of slots still has to come.
+abbrev pub range-at : List ℕ → ℕ → ℕ
+range-at ranges i = getD ranges i 0
+
+-- What the levels still have to come.
+abbrev pub to-come : List ℕ → Sweep → List (Level ℕ ℕ)
+to-come e m = levels-from e (point (m .heads)) (range-at (m .ranges)) (m .levels) 0
+
+-- The docket of the first record to come, and its level.
+abbrev pub next-key : Sweep → ℕ
+next-key m = key-of (m .heads .first)
+
+abbrev pub next-level : Sweep → ℕ
+next-level m = level-of (m .heads .first)
+
+-- The heads are those of the levels, the chains of ranges can be followed, and before the fence the levels above another have a range over a docket to come exactly
+-- where the cover is above it.
+pub record Sweeping (e : List ℕ) (m : Sweep) : Type 0 where
+  pub points : Fits e (m .levels) (m .heads)
+  pub ranges : Ready e (m .ranges) (m .levels)
+  pub covers : (j n : ℕ) → next-key m ≤ j → j < m .fence → n ≤ m .levels → over e (m .ranges) j n 0 ≡ ltb (m .cover) n
+  pub last : m .hi ≤ 65535
+
+-- The same to come; the sweep is on its way, or has come to a live docket or to none.
+abbrev pub told : Sweep → ℕ → ℕ → ℕ → ℕ → ℕ → Sweep
+told m going alive key value stamp = record { heads = m .heads; ranges = m .ranges; levels = m .levels; cover = m .cover; fence = m .fence; from = m .from; hi = m .hi; going = going; live = alive; key = key; value = value; stamp = stamp }
+
+-- The same sweep, but for how it stands.
+abbrev pub standing : Sweep → ℕ → Sweep
+standing m going = told m going (m .live) (m .key) (m .value) (m .stamp)
+
+-- On its way with other heads, from another docket on.
+abbrev pub moved : Sweep → Heads → ℕ → Sweep
+moved m heads from = record { heads = heads; ranges = m .ranges; levels = m .levels; cover = m .cover; fence = m .fence; from = from; hi = m .hi; going = 1; live = m .live; key = m .key; value = m .value; stamp = m .stamp }
+
+-- The first record is passed: one of its docket was passed before, or its docket is not live, or is.
+abbrev pub gone : List ℕ → Sweep → Bool → Sweep
+gone e m covered =
+    let k = next-key m in
+    let s = m .heads .slot in
+    let heads = passed e (m .heads) in
+    let r = moved m heads (k + 1) in
+    cond (ltb k (m .from)) (moved m heads (m .from))
+    (cond (covered || not (eqb (kind-of e s) 1)) r (told r 0 1 k (tally-of e s) (stamp-of e s)))
+
+-- Nothing is left up to hi, or the fence is reached, or the first record is passed.
+abbrev pub neared : List ℕ → Sweep → Sweep
+neared e m =
+    cond (ltb (m .hi) (next-key m)) (told m 0 0 (m .key) (m .value) (m .stamp))
+    (cond (leb (m .fence) (next-key m)) (standing m 1) (gone e m (ltb (m .cover) (next-level m))))
+
+-- The rows of the live dockets that are still to come, up to hi.
+abbrev pub rest : List ℕ → Sweep → List (Row ℕ)
+rest e m = live (lookup (to-come e m)) (m .from) (m .hi)
+
+-- The live docket that the sweep has come to.
+abbrev pub row-found : Sweep → Row ℕ
+row-found m = record { key = m .key; tally = m .value; stamp = m .stamp }
+
+abbrev pub is-live : Sweep → Bool
+is-live m = eqb (m .live) 1
+
+-- It and those that are still to come; none where the sweep came to no live docket.
+abbrev pub rows-from : List ℕ → Sweep → List (Row ℕ)
+rows-from e m = cond (is-live m) (row-found m ∷ rest e m) []
+
+-- What a sweep that has come to a docket or to none lists, and what one on its way has to come.
+abbrev pub listed : List ℕ → Sweep → List (Row ℕ)
+listed e m = cond (eqb (m .going) 0) (rows-from e m) (rest e m)
+
+-- A step passes a record, or finds that nothing is left up to hi.
+pub record Stepped (e : List ℕ) (m r : Sweep) : Type 0 where
+  pub sweeping : Sweeping e r
+  pub leads : rest e m ≡ listed e r
+  pub fewer : r .going ≢ 0 → left e (r .heads) < left e (m .heads)

@@ -1,0 +1,103 @@
+// A sweep over the levels, and its step: the least record to come is passed, and its docket is live or not.
+use scan_heads::Heads;
+use scan_heads::key_of;
+use scan_heads::level_of;
+use scan_heads::pass;
+use table_slots::PUT;
+use table_slots::kind_of;
+use table_slots::stamp_of;
+use table_slots::tally_of;
+ghost use mathlib.Core.Path.{_≡_};
+ghost use Prim.Native.Nat.{_≤_};
+ghost use Rattle.scan_heads.specs.Heads.{key-of};
+ghost use Rattle.scan_step.specs.Sweeps.{told, standing, gone, neared, Sweeping};
+
+// How a sweep stands: it has come to a live docket, or to none.
+pub const ARRIVED: u32 = 0;
+
+// It is on its way.
+pub const SEARCHING: u32 = 1;
+
+// What each of some levels has next, point and range; the shallowest level with a range over the dockets before the fence; the docket
+// from which on, and the last up to which live ones are listed; how the sweep stands (going), whether it has come to a live docket
+// (1 or 0), and to which. No field is a bool: the gap beside it would be copied byte by byte.
+pub struct Sweep {
+    pub heads: Heads,
+    pub ranges: [usize; 7],
+    pub levels: usize,
+    pub cover: usize,
+    pub fence: u32,
+    pub from: u32,
+    pub hi: u32,
+    pub going: u32,
+    pub live: u32,
+    pub key: u32,
+    pub value: u32,
+    pub stamp: u32,
+}
+
+// One record, where its docket lies before the fence.
+pub fn near(e: &[u32], m: Sweep) -> Sweep
+    requires { ⌜ Sweeping (now e) m ⌝ }
+    ensures { λ r. ⌜ r ≡ neared (now (e .entry)) m ⌝ }
+{
+    let key = key_of(m.heads.first);
+    if m.hi < key {
+        return none(m);
+    }
+    if m.fence <= key {
+        return stand(m, SEARCHING);
+    }
+    go(e, m, m.cover < level_of(m.heads.first))
+}
+
+// The first record is passed. Its docket is live if no record of it was passed before, no level above has a range over it (covered),
+// and it is a put.
+pub fn go(e: &[u32], m: Sweep, covered: bool) -> Sweep
+    requires { ⌜ Sweeping (now e) m ⌝ }
+    requires { ⌜ key-of (m .heads .first) ≤ m .hi ⌝ }
+    ensures { λ r. ⌜ r ≡ gone (now (e .entry)) m covered ⌝ }
+{
+    let heads = m.heads;
+    let key = key_of(heads.first);
+    let slot = heads.slot;
+    let passed = pass(e, heads);
+    let mut r = m;
+    r.heads = passed;
+    r.going = SEARCHING;
+    if key < m.from {
+        return r;
+    }
+    r.from = key + 1;
+    if covered {
+        return r;
+    }
+    if kind_of(e, slot) != PUT {
+        return r;
+    }
+    r.going = ARRIVED;
+    r.live = 1;
+    r.key = key;
+    r.value = tally_of(e, slot);
+    r.stamp = stamp_of(e, slot);
+    r
+}
+
+// No live docket is left.
+pub fn none(m: Sweep) -> Sweep
+    ensures { λ r. ⌜ r ≡ told m 0 0 (m .key) (m .value) (m .stamp) ⌝ }
+{
+    let mut r = m;
+    r.going = ARRIVED;
+    r.live = 0;
+    r
+}
+
+// The same sweep, but for how it stands.
+pub fn stand(m: Sweep, going: u32) -> Sweep
+    ensures { λ r. ⌜ r ≡ standing m going ⌝ }
+{
+    let mut r = m;
+    r.going = going;
+    r
+}

@@ -1,0 +1,79 @@
+-- How a sweep sets out, goes on and ends.
+use mathlib.Core.Bool.{cond}
+use mathlib.Core.List.{List}
+use Prim.Native.Nat.{ℕ, zero, suc, _+_}
+use lib.Dec.{eqb, leb, ltb}
+use lib.ListN.{set, replicate}
+use Rattle.lists.specs.Lists.{iterate}
+use Rattle.tables.specs.Words.{settings-of, level-row}
+use Rattle.tables.specs.Sound.{chain-from}
+use Rattle.chain_cover.specs.Skips.{first-slot, beginning}
+use Rattle.scan_heads.specs.declared.Heads.{Heads}
+use Rattle.scan_heads.specs.Heads.{head-at, pushed, blank, left}
+use Rattle.scan_fences.specs.Fences.{View, surveyed}
+use Rattle.scan_step.specs.declared.Sweep.{Sweep}
+use Rattle.scan_step.specs.Sweeps.{next-key, next-level, told, standing, gone, neared}
+
+-- The first point of level i that is not before lo.
+abbrev pub front-at : List ℕ → List ℕ → ℕ → ℕ → ℕ
+front-at e l lo i = first-slot (beginning e lo (chain-from e (level-row l i .w0)))
+
+-- The heads of n levels from there on, and their first ranges.
+abbrev pub opened-heads : List ℕ → List ℕ → ℕ → ℕ → Heads
+opened-heads e l lo n = iterate (λ i a. pushed a (head-at e i (front-at e l lo i))) 0 n blank
+
+abbrev pub opened-ranges : List ℕ → ℕ → List ℕ
+opened-ranges l n = iterate (λ i rs. set rs i (level-row l i .w1)) 0 n (replicate 7 0)
+
+-- A sweep that sets out; no fence is known.
+abbrev pub opened : List ℕ → List ℕ → ℕ → ℕ → Sweep
+opened e l lo hi =
+    let n = settings-of l .deepest + 1 in
+    record { heads = opened-heads e l lo n; ranges = opened-ranges l n; levels = n; cover = 0; fence = 0; from = lo; hi = hi; going = 1; live = 0; key = 0; value = 0; stamp = 0 }
+
+-- A sweep that has come to its end.
+abbrev pub over : Sweep
+over = record {
+  heads = record { slot = 0; first = 0; h1 = 0; h2 = 0; h3 = 0; h4 = 0; h5 = 0; h6 = 0 };
+  ranges = replicate 7 0;
+  levels = 0;
+  cover = 0;
+  fence = 0;
+  from = 0;
+  hi = 0;
+  going = 0;
+  live = 0;
+  key = 0;
+  value = 0;
+  stamp = 0;
+}
+
+-- The ranges were surveyed.
+abbrev pub viewing : Sweep → View → Sweep
+viewing m v = record { heads = m .heads; ranges = v .ranges; levels = m .levels; cover = v .cover .level; fence = v .cover .fence; from = m .from; hi = m .hi; going = m .going; live = m .live; key = m .key; value = m .value; stamp = m .stamp }
+
+-- For the first record's docket.
+abbrev pub view-of : List ℕ → Sweep → View
+view-of e m = surveyed e (next-key m) (m .levels) 0 (m .ranges) 65536
+
+-- The first record is passed, wherever its docket lies.
+abbrev pub crossed : List ℕ → Sweep → Sweep
+crossed e m =
+    cond (ltb (m .hi) (next-key m)) (told m 0 0 (m .key) (m .value) (m .stamp))
+    (gone e (viewing m (view-of e m)) (ltb (view-of e m .cover .level) (next-level m)))
+
+abbrev pub step-of : List ℕ → Sweep → Sweep
+step-of e m = cond (leb (m .fence) (next-key m)) (crossed e m) (neared e m)
+
+-- Step after step until the sweep has come to a live docket or to none, n at most.
+unfoldable pub arrived : ℕ → List ℕ → Sweep → Sweep
+arrived zero e m = m
+arrived (suc n) e m = cond (eqb (m .going) 0) m (arrived n e (step-of e m))
+
+-- Each step passes a record, or is the last.
+abbrev pub searched : List ℕ → Sweep → Sweep
+searched e m = arrived (suc (left e (m .heads))) e (standing m 1)
+
+-- Mostly one step is enough.
+abbrev pub advanced : List ℕ → Sweep → Sweep
+advanced e m = cond (eqb (neared e m .going) 0) (neared e m) (standing (searched e (standing (neared e m) 1)) 0)

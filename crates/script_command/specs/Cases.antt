@@ -1,0 +1,37 @@
+-- Document 01, "The script program": its input with its output, and the cases that it names.
+use mathlib.Core.Path.{_≡_}
+use mathlib.Core.List.{List, [], _∷_}
+use Prim.Native.Nat.{ℕ}
+use Prim.Native.String.{String}
+use lib.ListN.{replicate}
+use Rattle.script_lines.specs.Lines.{line-of}
+use Rattle.script_lines.specs.Cases.{bytes}
+use Rattle.script_store.specs.Memory.{Memory, Printed}
+use Rattle.script_command.specs.Script.{line-step}
+
+-- What the lines print, one after the other.
+unfoldable pub prints : Memory → List String → List Printed
+prints m [] = []
+prints m (text ∷ rest) =
+    let r = line-step (line-of (bytes text)) m in
+    r .printed ∷ prints (r .memory) rest
+
+-- Room for ten slots and six levels, and no store.
+abbrev pub no-store : Memory
+no-store = record { entries = replicate 44 0; levels = replicate 32 0; slots = 0; deepest = 0 }
+
+abbrev pub three : ℕ → ℕ → ℕ → Printed
+three a b c = record { first = a; second = b; third = c }
+
+pub record CaseTable : Type 0 where
+  -- "This input, then its output"
+  pub script : prints no-store ("M 6 3 2 2 9" ∷ "P 1 7 70" ∷ "P 1 8 80" ∷ "D 2 7" ∷ "P 3 9 90" ∷ "G 7" ∷ "P 4 7 71" ∷ "T 5" ∷ "G 7" ∷ "T 11" ∷ "F 10" ∷ [])
+      ≡ three 0 0 0 ∷ three 0 0 0 ∷ three 0 1 0 ∷ three 0 0 0 ∷ three 0 1 1 ∷ three 0 0 0 ∷ three 0 0 0 ∷ three 0 1 0 ∷ three 0 1 71 ∷ three 0 1 1 ∷ three 5 0 0 ∷ []
+  -- "any line but M before an accepted M, is 9"
+  pub before-a-make : prints no-store ("T 1" ∷ "G 7" ∷ "M 6 1 2 2 9" ∷ "P 1 7 70" ∷ "" ∷ []) ≡ three 9 0 0 ∷ three 9 0 0 ∷ three 6 0 0 ∷ three 9 0 0 ∷ three 9 0 0 ∷ []
+  -- "N above 4,000 … is 9", "a refused one leaves the store there was"
+  pub refused-makes : prints no-store ("M 6 3 2 2 9" ∷ "P 1 7 70" ∷ "M 4001 3 2 2 9" ∷ "M 4 7 2 2 9" ∷ "M 0 3 2 2 9" ∷ "G 7" ∷ [])
+      ≡ three 0 0 0 ∷ three 0 0 0 ∷ three 9 0 0 ∷ three 6 0 0 ∷ three 1 0 0 ∷ three 0 1 70 ∷ []
+  -- "A later M makes the store anew"
+  pub made-anew : prints no-store ("M 6 3 2 2 9" ∷ "P 5 7 70" ∷ "M 4 2 2 2 4" ∷ "G 7" ∷ "P 1 7 71" ∷ "G 7" ∷ [])
+      ≡ three 0 0 0 ∷ three 0 0 0 ∷ three 0 0 0 ∷ three 0 0 0 ∷ three 0 0 0 ∷ three 0 1 71 ∷ []

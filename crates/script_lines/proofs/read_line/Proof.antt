@@ -1,0 +1,92 @@
+-- `script_lines::read_line` meets its contract.
+use mathlib.Core.Path.{refl, sym, _∙_}
+use borrow.Author.Needs.{needs}
+use Rattle.script_lines.specs.Lines.{line-of}
+use Rattle.script_lines.proofs.Letters.{empty, by-letter, no-letter}
+use Rattle.script_lines.proofs.read_line.Statement.{statement}
+use Rattle.script_lines.proofs.read_line.Tie as tie
+
+returns : tie.Need-returns
+returns c = sym (empty _ (c .if1 .taken))
+
+shared-slice-read-match : tie.Need-shared-slice-read-match
+shared-slice-read-match c = search needs
+
+read-make-requires : tie.Need-read-make-requires
+read-make-requires c κs = search needs
+
+read-put-requires : tie.Need-read-put-requires
+read-put-requires c κs = search needs
+
+read-delete-requires : tie.Need-read-delete-requires
+read-delete-requires c κs = search needs
+
+read-delete-range-requires : tie.Need-read-delete-range-requires
+read-delete-range-requires c κs = search needs
+
+read-flush-requires : tie.Need-read-flush-requires
+read-flush-requires c κs = search needs
+
+read-tick-requires : tie.Need-read-tick-requires
+read-tick-requires c κs = search needs
+
+read-lookup-requires : tie.Need-read-lookup-requires
+read-lookup-requires c κs = search needs
+
+returns-2 : tie.Need-returns-2
+unfolding line-of
+returns-2 c = c .read-make .ensures ∙ sym (by-letter (c .before .before .before .before .before .args .text .now) _ (c .before .before .before .if1 .left) (c .before .match .keys1))
+
+returns-3 : tie.Need-returns-3
+unfolding line-of
+returns-3 c = c .read-put .ensures ∙ sym (by-letter (c .before .before .before .before .before .args .text .now) _ (c .before .before .before .if1 .left) (c .before .match .keys2))
+
+returns-4 : tie.Need-returns-4
+unfolding line-of
+returns-4 c = c .read-delete .ensures ∙ sym (by-letter (c .before .before .before .before .before .args .text .now) _ (c .before .before .before .if1 .left) (c .before .match .keys3))
+
+returns-5 : tie.Need-returns-5
+unfolding line-of
+returns-5 c = c .read-delete-range .ensures ∙ sym (by-letter (c .before .before .before .before .before .args .text .now) _ (c .before .before .before .if1 .left) (c .before .match .keys4))
+
+returns-6 : tie.Need-returns-6
+unfolding line-of
+returns-6 c = c .read-flush .ensures ∙ sym (by-letter (c .before .before .before .before .before .args .text .now) _ (c .before .before .before .if1 .left) (c .before .match .keys5))
+
+returns-7 : tie.Need-returns-7
+unfolding line-of
+returns-7 c = c .read-tick .ensures ∙ sym (by-letter (c .before .before .before .before .before .args .text .now) _ (c .before .before .before .if1 .left) (c .before .match .keys6))
+
+returns-8 : tie.Need-returns-8
+unfolding line-of
+returns-8 c = c .read-lookup .ensures ∙ sym (by-letter (c .before .before .before .before .before .args .text .now) _ (c .before .before .before .if1 .left) (c .before .match .keys7))
+
+returns-9 : tie.Need-returns-9
+returns-9 c =
+    let text = c .before .before .before .before .args .text .now in
+    let others = c .match .rest in
+    sym
+    (by-letter text _ (c .before .before .if1 .left) refl
+    ∙ no-letter _ _ (others .0 .0 .0 .0 .0 .0 .1) (others .0 .0 .0 .0 .0 .1) (others .0 .0 .0 .0 .1) (others .0 .0 .0 .1) (others .0 .0 .1) (others .0 .1) (others .1))
+
+pub read-line-spec : {M : Type 1} → statement M
+read-line-spec =
+    tie.close
+    (tie.spec
+    returns
+    shared-slice-read-match
+    read-make-requires
+    read-put-requires
+    read-delete-requires
+    read-delete-range-requires
+    read-flush-requires
+    read-tick-requires
+    read-lookup-requires
+    returns-2
+    returns-3
+    returns-4
+    returns-5
+    returns-6
+    returns-7
+    returns-8
+    returns-9)

@@ -1,0 +1,72 @@
+-- What the code answers for a making.
+use mathlib.Core.Path.{_≡_, refl, sym, ap, _∙_}
+use mathlib.Core.Bool.{cond}
+use mathlib.Core.List.{List, _++_}
+use Prim.Native.Nat.{ℕ, _≤_, _<_}
+use borrow.Author.Tests.{lt-ltb, le-ltb, eq-eqb, ne-eqb}
+use lib.Dec.{eqb}
+use lib.ListN.{length, take, drop}
+use Rattle.settings.specs.declared.Settings.{Settings}
+use Rattle.settings.specs.Limits.{allowed}
+use Rattle.lists.proofs.Bools.{cond-elim}
+use Rattle.tables.specs.Words.{slots-of}
+use Rattle.tables.specs.Sound.{entries-fit}
+use Rattle.make.specs.Make.{Made, made, not-made, make-tables}
+use Rattle.script_store.specs.declared.Size.{Size}
+use Rattle.script_store.specs.Memory.{Memory, Stepped, entry-length, level-length, level-room, with-tables, answers-alone, makes}
+use Rattle.script_store.specs.Coded.{Fits, memory}
+use Rattle.script_store.proofs.Parts.{rejoined, unchanged, make-entry-part, make-level-part}
+
+-- A refused making leaves both tables as they were.
+not-made-where-refused : (e l : List ℕ) (s : Settings) → (make-tables e l s .refusal ≡ 0 → ⊥) → make-tables e l s ≡ not-made (make-tables e l s .refusal) e l
+unfolding make-tables
+not-made-where-refused e l s =
+    let Kept : Made → Type 0 = λ x. (x .refusal ≡ 0 → ⊥) → x ≡ not-made (x .refusal) e l in
+    let three = cond (eqb (length l) (level-length (s .deepest))) (made (slots-of e) s) (not-made 2 e l) in
+    cond-elim Kept (entries-fit e) (cond (allowed s) three (not-made 6 e l)) (not-made 1 e l)
+    (λ _. cond-elim Kept (allowed s) three (not-made 6 e l)
+    (λ _. cond-elim Kept (eqb (length l) (level-length (s .deepest))) (made (slots-of e) s) (not-made 2 e l) (λ _ refused. absurd (refused refl)) (λ _ _. refl))
+    (λ _ _. refl))
+    (λ _ _. refl)
+
+module _ (e l : List ℕ) (size : Size) (fits : Fits e l size) (n : ℕ) (s : Settings) where
+  pub too-many : 4000 < n → answers-alone 9 (memory e l size) ≡ makes n s (memory e l size)
+  unfolding makes
+  too-many many = rw (lt-ltb 4000 n many)
+
+  abbrev fresh : Memory
+  fresh = record { entries = e; levels = l; slots = n; deepest = s .deepest }
+
+  -- What a making of at most 4,000 slots gives, by what the call answers and leaves.
+  abbrev outcome : Made → Stepped
+  outcome r =
+      cond (eqb (r .refusal) 0)
+      (answers-alone 0 (with-tables fresh (record { entries = r .entries; levels = r .levels })))
+      (answers-alone (r .refusal) (memory e l size))
+
+  makes-few : n ≤ 4000 → outcome (make-tables (take (entry-length n) e) (take (level-room (s .deepest)) l) s) ≡ makes n s (memory e l size)
+  unfolding makes
+  makes-few few = rw (le-ltb 4000 n few)
+
+  -- p and q are what the call leaves of the words that it is lent.
+  module _ (few : n ≤ 4000) (rows : ℕ) (rows-are : rows ≡ level-room (s .deepest)) (number : ℕ) (p q : List ℕ)
+      (tells : record { refusal = number; entries = p; levels = q } ≡ make-tables (take (entry-length n) e) (take rows l) s) where
+    makes-told : outcome (record { refusal = number; entries = p; levels = q }) ≡ makes n s (memory e l size)
+    makes-told = ap outcome (tells ∙ ap (λ (k : ℕ). make-tables (take (entry-length n) e) (take k l) s) rows-are) ∙ makes-few few
+
+    pub make-refused : (number ≡ 0 → ⊥)
+        → record { memory = record { entries = p ++ drop (entry-length n) e; levels = q ++ drop rows l; slots = size .slots; deepest = size .deepest }; printed = record { first = number; second = 0; third = 0 } }
+        ≡ makes n s (memory e l size)
+    make-refused refused =
+        let kept = tells ∙ not-made-where-refused (take (entry-length n) e) (take rows l) s (λ z. refused (ap (λ (r : Made). r .refusal) tells ∙ z)) in
+        (λ i. answers-alone number (record { entries = unchanged e p (entry-length n) (ap (λ (r : Made). r .entries) kept) i; levels = unchanged l q rows (ap (λ (r : Made). r .levels) kept) i; slots = size .slots; deepest = size .deepest }))
+        ∙ ap (λ t. cond t (answers-alone 0 (with-tables fresh (record { entries = p; levels = q }))) (answers-alone number (memory e l size))) (sym (ne-eqb number 0 refused))
+        ∙ makes-told
+
+    pub make-accepted : number ≡ 0 → length p ≡ length (take (entry-length n) e) → length q ≡ length (take rows l)
+        → record { memory = record { entries = p ++ drop (entry-length n) e; levels = q ++ drop rows l; slots = n; deepest = s .deepest }; printed = record { first = 0; second = 0; third = 0 } }
+        ≡ makes n s (memory e l size)
+    make-accepted accepted p-kept q-kept =
+        (λ i. answers-alone 0 (record { entries = rejoined e (entry-length n) (make-entry-part fits n few) p p-kept i; levels = rejoined l rows (make-level-part fits (s .deepest) rows rows-are) q q-kept i; slots = n; deepest = s .deepest }))
+        ∙ ap (λ t. cond t (answers-alone 0 (with-tables fresh (record { entries = p; levels = q }))) (answers-alone number (memory e l size))) (sym (eq-eqb number 0 accepted))
+        ∙ makes-told

@@ -1,3 +1,0 @@
--- The laws of the check.
-pub mod Tables
-pub mod Answer

@@ -1,0 +1,106 @@
+// A write entered into the buffer: what it takes the place of goes, and its record comes into the first free slot.
+use chain_cells::splice;
+use chain_sieve::Doomed;
+use chain_sieve::sieve;
+use table_levels::Level;
+use table_levels::earlier;
+use table_levels::level_at;
+use table_levels::set_level;
+use table_slots::PUT;
+use table_slots::RANGE;
+use table_slots::next_of;
+use table_slots::set_row;
+use write_record::Record;
+ghost use mathlib.Core.Path.{_≡_};
+ghost use mathlib.Core.Logic.{_≢_};
+ghost use mathlib.Core.Bool.{cond, false};
+ghost use Prim.Native.Nat.{ℕ, _≤_};
+ghost use lib.Dec.{eqb};
+ghost use Rattle.lists.specs.All.{Exists};
+ghost use Rattle.lists.specs.Lists.{none};
+ghost use Rattle.model.specs.Merge.{earlier, release};
+ghost use Rattle.model.specs.Steps.{Write, displaced, enter};
+ghost use Rattle.model.specs.Calls.{written, bad-docket};
+ghost use Rattle.merge_levels.specs.Laid.{Store, Laid, at-state};
+ghost use Rattle.write_record.specs.Records.{record-of};
+ghost use Rattle.write_enter.specs.Taking.{Free, FreeHeld, Taken};
+ghost use Rattle.write_enter.specs.Entering.{Entry, EntryHeld, Entered, Entering};
+
+// Kinds are stacked on next slots at this base, and hi on lo.
+const BASE: u32 = 65536;
+
+// The write enters the buffer as a level of one record merged into it.
+pub fn enter(e: &mut [u32], l: &mut [u32], clock: u32, w: Record)
+    requires { ⌜ Exists (λ g. Entering g (now e) (now l) clock w) ⌝ }
+    requires { ⌜ 1 ≤ clock ⌝ }
+    ensures { λ _. ⌜ ((g : Store) (v : Write ℕ) → Laid g (now (e .entry)) (now (l .entry)) → g .time ≡ clock → w ≡ record-of v → bad-docket (written v) ≡ false
+        → none (release (displaced clock v (g .state)) (g .state .free)) ≡ false → Laid (at-state g (enter clock v (g .state))) (now (e .exit)) (now (l .exit))) ⌝ }
+{
+    let buffer = level_at(l, 0);
+    if w.kind == RANGE {
+        let entered = enter_range(e, buffer, clock, w);
+        set_level(l, 0, entered);
+        return;
+    }
+    let entered = enter_point(e, buffer, clock, w);
+    set_level(l, 0, entered);
+}
+
+// A range delete in the buffer: the points that it covers go, and a range of the same dockets.
+fn enter_range(e: &mut [u32], buffer: Level, clock: u32, w: Record) -> Level
+    requires { ⌜ Exists (λ g. EntryHeld g (now e) buffer clock w) ⌝ }
+    requires { ⌜ w .kind ≡ 3 ⌝ }
+    ensures { λ r. ⌜ ((g : Entry) → EntryHeld g (now (e .entry)) buffer clock w → Entered g (now (e .exit)) r) ⌝ }
+{
+    let points = sieve(e, buffer.points, Doomed::Points(w.lo, w.hi));
+    let ranges = sieve(e, buffer.ranges, Doomed::Range(w.lo, w.hi));
+    let slot = take(e, clock, w);
+    let first = splice(e, slot, ranges.head);
+    let owed = earlier(clock, buffer.owed);
+    Level {
+        points: points.head,
+        ranges: first,
+        held: buffer.held - points.gone - ranges.gone + 1,
+        owed: owed,
+    }
+}
+
+// A put or a delete in the buffer: a point of its docket goes, and every range stays.
+fn enter_point(e: &mut [u32], buffer: Level, clock: u32, w: Record) -> Level
+    requires { ⌜ Exists (λ g. EntryHeld g (now e) buffer clock w) ⌝ }
+    requires { ⌜ w .kind ≢ 3 ⌝ }
+    ensures { λ r. ⌜ ((g : Entry) → EntryHeld g (now (e .entry)) buffer clock w → Entered g (now (e .exit)) r) ⌝ }
+{
+    let points = sieve(e, buffer.points, Doomed::Points(w.lo, w.hi));
+    let slot = take(e, clock, w);
+    let first = splice(e, slot, points.head);
+    let owed = owed_with(w.kind, clock, buffer.owed);
+    Level {
+        points: first,
+        ranges: buffer.ranges,
+        held: buffer.held - points.gone + 1,
+        owed: owed,
+    }
+}
+
+// The record in the first free slot, a chain of its own.
+fn take(e: &mut [u32], clock: u32, w: Record) -> usize
+    requires { ⌜ Exists (λ g. FreeHeld g (now e) w) ⌝ }
+    ensures { λ r. ⌜ ((g : Free) → FreeHeld g (now (e .entry)) w → Taken g clock w (now (e .exit)) r) ⌝ }
+{
+    let slot = e[0] as usize;
+    let next = next_of(e, slot);
+    e[0] = next as u32;
+    set_row(e, slot, w.kind * BASE, w.lo + BASE * w.hi, w.tally, clock);
+    slot
+}
+
+// A put owes nothing; a delete owes from its clock on.
+fn owed_with(kind: u32, clock: u32, owed: u32) -> u32
+    ensures { λ r. ⌜ r ≡ earlier (cond (eqb kind 1) 0 clock) owed ⌝ }
+{
+    if kind == PUT {
+        return owed;
+    }
+    earlier(clock, owed)
+}

@@ -1,0 +1,38 @@
+// What a write puts into the tables, and whether there is room for it.
+use chain_sieve::Doomed;
+use chain_sieve::first_doomed;
+use table_levels::level_at;
+use table_slots::RANGE;
+ghost use mathlib.Core.Path.{_≡_};
+ghost use Prim.Native.Nat.{ℕ};
+ghost use Rattle.lists.specs.All.{Exists};
+ghost use Rattle.model.specs.Steps.{Write, crowded};
+ghost use Rattle.merge_levels.specs.Laid.{Store, Laid};
+ghost use Rattle.write_record.specs.Records.{record-of};
+
+// What a write puts into a slot beside its stamp.
+pub struct Record {
+    pub kind: u32,
+    pub lo: u32,
+    pub hi: u32,
+    pub tally: u32,
+}
+
+// Whether no slot is free and the entry would free none in the buffer.
+pub fn is_crowded(e: &[u32], l: &[u32], w: Record) -> bool
+    requires { ⌜ Exists (λ g. Laid g (now e) (now l)) ⌝ }
+    requires { ⌜ Exists (λ (v : Write ℕ). w ≡ record-of v) ⌝ }
+    ensures { λ r. ⌜ ((g : Store) (v : Write ℕ) → Laid g (now (e .entry)) (now (l .entry)) → w ≡ record-of v → r ≡ crowded (g .time) v (g .state)) ⌝ }
+{
+    if e[0] != 0 {
+        return false;
+    }
+    let buffer = level_at(l, 0);
+    if first_doomed(e, buffer.points, Doomed::Points(w.lo, w.hi)) != 0 {
+        return false;
+    }
+    if w.kind != RANGE {
+        return true;
+    }
+    first_doomed(e, buffer.ranges, Doomed::Range(w.lo, w.hi)) == 0
+}
