@@ -16,7 +16,7 @@ use Rattle.model.proofs.StepView.{worked, accepted-outcome, step-accepts, step-
 use Rattle.model.proofs.Slots.{Whole}
 use Rattle.model.proofs.Numbers.{held-most}
 use Rattle.model.proofs.Counted.{add, pass-after}
-use Rattle.tables.specs.Words.{slots-of}
+use Rattle.tables.specs.Slots.{slots-of}
 use Rattle.tables.specs.Placed.{read-state, entry-words, level-words}
 use Rattle.tables.specs.Formed.{Formed, levels-slots}
 use Rattle.tables.proofs.Once.{once-facts}

@@ -10,11 +10,12 @@ use lib.Seq.{getD-set-same, getD-set-other}
 use Rattle.lists.specs.Lists.{none, sum}
 use Rattle.model.specs.Records.{Level, State, empty, held, held-all}
 use Rattle.model.specs.Calls.{timed}
-use Rattle.tables.specs.Words.{Row, row-of, first-free, level-row}
+use Rattle.tables.proofs.Rows.{length-level-words, settings-back, level-row-at}
+use Rattle.tables.specs.Slots.{slot-at, tally-of, stamp-of, first-free}
+use Rattle.tables.specs.Rows.{Row, level-row}
 use Rattle.tables.specs.Placed.{Cell, free-cell, head, all-chains, entry-words}
 use Rattle.tables.proofs.Cells.{Chained, AllChained}
 use Rattle.tables.proofs.Back.{formed-words}
-use Rattle.tables.proofs.LevelRows.{level-row-at, length-level-words, settings-back}
 use Rattle.merge_levels.specs.Laid.{Store, Laid}
 use Rattle.call_end.specs.Ending.{RowsAre}
 use Rattle.call_end.proofs.Ends.{formed-whole}
@@ -49,7 +50,7 @@ module _ (g : Store) (e l : List ℕ) (w : Laid g e l) where
   slot-zero = omega (arith, w .entries .room, w .formed .few)
 
   -- The words with the clock set.
-  clock-other : (t s : ℕ) → s ≢ 0 → row-of (set e 1 t) s ≡ row-of e s
+  clock-other : (t s : ℕ) → s ≢ 0 → row-of (set e 1 t) s ≡ slot-at e s
   clock-other t s nz =
       let n0 : 4 * s ≢ 1 = λ q. nz (omega arith) in
       let n1 : 4 * s + 1 ≢ 1 = λ q. nz (omega arith) in
@@ -57,7 +58,7 @@ module _ (g : Store) (e l : List ℕ) (w : Laid g e l) where
       let n3 : 4 * s + 3 ≢ 1 = λ q. nz (omega arith) in
       simp (getD-set-other, n0, n1, n2, n3)
 
-  clock-first : (t : ℕ) → row-of (set e 1 t) 0 ≡ record { w0 = row-of e 0 .w0; w1 = t; w2 = row-of e 0 .w2; w3 = row-of e 0 .w3 }
+  clock-first : (t : ℕ) → row-of (set e 1 t) 0 ≡ record { w0 = first-free e; w1 = t; w2 = tally-of e 0; w3 = stamp-of e 0 }
   clock-first t =
       let long : 1 < length e = omega (arith, slot-zero) in
       let n0 : 4 * 0 ≢ 1 = omega arith in
@@ -104,7 +105,7 @@ module _ (p : State ℕ ℕ) (l : List ℕ) (r : RowsAre p l) where
   pub rows-length : length l ≡ 4 * (p .settings .deepest + 2)
   rows-length = rw (r .levels) (omega (arith, length-level-words p, r .size))
 
-  pub rows-held : (i : ℕ) → i < length (p .levels) → level-row l i .w2 ≡ held (getD (p .levels) i empty)
+  pub rows-held : (i : ℕ) → i < length (p .levels) → level-row l i .held ≡ held (getD (p .levels) i empty)
   rows-held i h = rw (r .levels) (ap (λ (x : Row). x .w2) (level-row-at p i h))
 
 -- So many rows, whose records up to level i have been added up.
@@ -118,7 +119,7 @@ module _ (p : State ℕ ℕ) (l : List ℕ) (r : RowsAre p l) where
   adds-nothing = record { number = omega (arith, rows-deepest p l r, r .size); room = omega (arith, rows-deepest p l r, rows-length p l r); sum-is = omega arith }
 
   module _ (rows held i : ℕ) (a : Adds p l rows held i) where
-    pub adds-one : i < rows → Adds p l rows (held + level-row l i .w2) (i + 1)
+    pub adds-one : i < rows → Adds p l rows (held + level-row l i .held) (i + 1)
     adds-one h =
         let next : i + 1 ≡ suc i = omega arith in
         let one : held-from (p .levels) (i + 1) ≡ held-from (p .levels) (suc i) = ap (held-from (p .levels)) next in

@@ -1,12 +1,12 @@
 // The end of every accepted timed call: the pass, the clock, and the sum of what has gone.
 use call_refusal::Answer;
 use merge_pass::pass;
+use table_levels::held_all;
+use table_slots::set_clock;
 ghost use mathlib.Core.Path.{_≡_};
-ghost use Prim.Native.Nat.{ℕ};
 ghost use Rattle.lists.specs.All.{Exists};
-ghost use Rattle.model.specs.Records.{State, held-all};
 ghost use Rattle.merge_levels.specs.Laid.{Store};
-ghost use Rattle.call_end.specs.Ending.{RowsAre, Ending, Ended};
+ghost use Rattle.call_end.specs.Ending.{Ending, Ended};
 
 // The pass, which ends every accepted call; then the clock, and what has gone of so many records.
 pub fn finish(e: &mut [u32], l: &mut [u32], clock: u32, before: u32, merges: u32) -> Answer
@@ -14,25 +14,10 @@ pub fn finish(e: &mut [u32], l: &mut [u32], clock: u32, before: u32, merges: u32
     ensures { λ r. ⌜ ((g : Store) → Ending g (now (e .entry)) (now (l .entry)) clock before merges → Ended g clock before merges (now (e .exit)) (now (l .exit)) r) ⌝ }
 {
     let more = pass(e, l, clock);
-    e[1] = clock;
+    set_clock(e, clock);
     Answer {
         refusal: 0,
         merges: merges + more,
         purged: before - held_all(l),
     }
-}
-
-// The number of records of all levels.
-pub fn held_all(l: &[u32]) -> u32
-    requires { ⌜ Exists (λ p. RowsAre p (now l)) ⌝ }
-    ensures { λ r. ⌜ ((p : State ℕ ℕ) → RowsAre p (now (l .entry)) → r ≡ held-all (p .levels)) ⌝ }
-{
-    let rows = l[0] as usize + 1;
-    let mut held = 0;
-    let mut i = 0;
-    while i < rows {
-        held += l[4 * (i + 1) + 2];
-        i += 1;
-    }
-    held
 }

@@ -11,7 +11,8 @@ use borrow.Author.Tests.{eq-eqb, ne-eqb, eqb-false, ltb-false, lt-ltb, le-ltb}
 use Rattle.lists.proofs.Bools.{or-false-left, or-false-right}
 use Rattle.model.specs.Records.{State}
 use Rattle.model.specs.Calls.{Op, Call, Answer, refusing, bad-docket, bad-clock, refused, step}
-use Rattle.tables.specs.Words.{Fits32, slots-of, clock-of}
+use Rattle.tables.specs.Words.{Fits32}
+use Rattle.tables.specs.Slots.{slots-of, clock-of}
 use Rattle.tables.specs.Sound.{table-refusal}
 use Rattle.tables.specs.Placed.{read-state, level-words}
 use Rattle.tables.specs.Formed.{Formed}

@@ -5,7 +5,8 @@ use mathlib.Core.List.{List}
 use Prim.Native.Nat.{ℕ}
 use lib.Dec.{eqb}
 use Rattle.model.specs.Calls as model
-use Rattle.tables.specs.Words.{Fits32, clock-of}
+use Rattle.tables.specs.Words.{Fits32}
+use Rattle.tables.specs.Slots.{clock-of}
 use Rattle.tables.specs.Sound.{table-refusal}
 use Rattle.check_refusal.specs.Dockets.{docket-refusal}
 use Rattle.call_tables.specs.Calls.{Tables, Called}

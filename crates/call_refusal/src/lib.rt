@@ -1,5 +1,6 @@
 // What turns a timed call away at once, and the answer that says so.
 use check_refusal::docket_refusal;
+use table_slots::clock_of;
 ghost use mathlib.Core.Path.{_≡_};
 ghost use Rattle.model.specs.Calls.{refusing};
 ghost use Rattle.call_refusal.specs.Coded.{answer-of, call-refusal};
@@ -22,7 +23,7 @@ pub fn refusal_of(e: &[u32], l: &[u32], clock: u32, lo: u32, hi: u32) -> u32
     if clock == 0 {
         return refusals::CLOCK;
     }
-    if clock < e[1] {
+    if clock < clock_of(e) {
         return refusals::CLOCK;
     }
     0

@@ -13,7 +13,8 @@ use Rattle.model.specs.Calls.{Op, written, flush, tick, Call, bad-docket, bad-c
 use Rattle.model.specs.Erasure.{accepted}
 use Rattle.model.proofs.Numbers.{most-merges, merges-most}
 use Rattle.model.proofs.Demands as model
-use Rattle.tables.specs.Words.{Fits32, slots-of}
+use Rattle.tables.specs.Words.{Fits32}
+use Rattle.tables.specs.Slots.{slots-of}
 use Rattle.tables.specs.Sound.{table-refusal}
 use Rattle.tables.specs.Placed.{read-state}
 use Rattle.tables.proofs.FormedSound.{sound-words}

@@ -15,7 +15,8 @@ use Rattle.model.specs.Erasure.{accepted}
 use Rattle.model.proofs.StepView.{StepView, refused-4, refused-5, refused-7, passed, step-view, accepted-outcome}
 use Rattle.model.proofs.PlainMaps.{merge-all-clock}
 use Rattle.model.proofs.Demands as model
-use Rattle.tables.specs.Words.{Fits32, slots-of, clock-of}
+use Rattle.tables.specs.Words.{Fits32}
+use Rattle.tables.specs.Slots.{slots-of, clock-of}
 use Rattle.tables.specs.Sound.{table-refusal}
 use Rattle.tables.specs.Placed.{read-state, entry-words}
 use Rattle.tables.proofs.Numbers.{tables-refuse-low}

@@ -11,7 +11,8 @@ use Rattle.model.specs.Records.{State}
 use Rattle.model.specs.Calls.{Call, refusing, step, run, answers}
 use Rattle.model.specs.Erasure.{accepted}
 use Rattle.model.proofs.Demands.{refused-unchanged}
-use Rattle.tables.specs.Words.{Fits32, slots-of}
+use Rattle.tables.specs.Words.{Fits32}
+use Rattle.tables.specs.Slots.{slots-of}
 use Rattle.tables.specs.Sound.{table-refusal}
 use Rattle.tables.specs.Placed.{read-state, entry-words, level-words}
 use Rattle.tables.specs.Formed.{Formed}

@@ -8,7 +8,7 @@ use Rattle.model.specs.Records.{State}
 use Rattle.model.specs.Steps.{merge-all}
 use Rattle.model.specs.Calls.{Answer, Call, Outcome, refusing, step}
 use Rattle.model.specs.Calls as model
-use Rattle.tables.specs.Words.{slots-of}
+use Rattle.tables.specs.Slots.{slots-of}
 use Rattle.tables.specs.Sound.{table-refusal}
 use Rattle.tables.specs.Placed.{read-state, entry-words, level-words}
 use Rattle.make_fresh.specs.Fresh.{made-entries, made-levels}

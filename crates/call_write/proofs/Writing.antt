@@ -11,7 +11,7 @@ use Rattle.model.specs.Records.{State, held-all}
 use Rattle.model.specs.Merge.{release}
 use Rattle.model.specs.Steps.{Write, merge-all, displaced, enter, act-deepest, crowded}
 use Rattle.model.specs.Calls.{written, refusing}
-use Rattle.tables.specs.Words.{slots-of, first-free}
+use Rattle.tables.specs.Slots.{slots-of, first-free}
 use Rattle.tables.specs.Placed.{read-state}
 use Rattle.tables.proofs.Back.{formed-words}
 use Rattle.tables.proofs.FormedSteps.{merge-all-formed}

@@ -4,6 +4,7 @@ use call_end::held_all;
 use call_refusal::Answer;
 use call_refusal::refused;
 use merge_levels::merge_all;
+use table_slots::first_free;
 use write_act::act;
 use write_enter::enter;
 use write_record::Record;
@@ -39,7 +40,7 @@ fn write_crowded(e: &mut [u32], l: &mut [u32], clock: u32, w: Record, before: u3
         → called (now (e .exit)) (now (l .exit)) r ≡ call-tables (lent (now (e .entry)) (now (l .entry))) (record { clock = clock; op = written v })) ⌝ }
 {
     let merges = merge_all(e, l);
-    if e[0] != 0 {
+    if first_free(e) != 0 {
         enter(e, l, clock, w);
         return finish(e, l, clock, before, merges);
     }

@@ -5,23 +5,22 @@ use mathlib.Core.List.{List, [], _∷_, _++_, map}
 use Prim.Native.Nat.{ℕ, _+_, _*_, _≤_}
 use native.Mathlib.Omega.{arith}
 use lib.ListN.{length}
-use Rattle.tables.specs.Words.{Row, row-of}
-use Rattle.tables.specs.Placed.{Cell, free-cell, head, cell-row}
-use Rattle.tables.proofs.Rows.{InTable}
+use Rattle.tables.specs.Slots.{entry-length, InTable, Slot, slot-at, free-slot, with-link}
+use Rattle.tables.specs.Placed.{Cell, free-cell, head, cell-slot}
 use Rattle.tables.proofs.Cells.{Chained, AllChained, cell-slots, chain-slots, times-head}
 use Rattle.tables.proofs.Once.{OnceFacts}
 use Rattle.tables.proofs.Reading.{head-small}
 use Rattle.chain_links.specs.Links.{linked, released}
 use Rattle.chain_cells.specs.Cells.{last-from}
 use Rattle.chain_cells.specs.Held.{Held, top}
-use Rattle.chain_links.proofs.Links.{wiped, length-linked, linked-other, length-released, released-other, released-same, released-top}
+use Rattle.chain_links.proofs.Links.{length-linked, linked-other, length-released, released-other, released-same, released-top}
 use Rattle.chain_cells.proofs.Frames.{Off, ChainedTo, chained-to-off, all-off, chain-start, chain-end, chain-whole, last-stands, last-inside, link-row, relink, stands, stands-once, SameSlots, still-once, sum-append-cells, sum-cell}
 
 -- The cells before the place lead to slot h, and all other chains are whole.
 pub record Cut (n clock : ℕ) (free : List ℕ) (done : List Cell) (h : ℕ) (rest : List (List Cell)) (e : List ℕ) : Type 0 where
   pub small : n ≤ 65535
-  pub room : length e ≡ 4 * (n + 1)
-  pub first : row-of e 0 ≡ top free clock
+  pub room : length e ≡ entry-length n
+  pub first : slot-at e 0 ≡ top free clock
   pub start : ChainedTo n e h done
   pub each : AllChained n e (map free-cell free ∷ rest)
   pub once : OnceFacts n (chain-slots (done ∷ map free-cell free ∷ rest))
@@ -117,12 +116,12 @@ module _ (n clock : ℕ) (free : List ℕ) (done : List Cell) (h : ℕ) (x : Cel
       let s : ℕ = x .slot in
       let off : Off s e (released e s) = released-other e s in
       let stay = rest-stays (released e s) off in
-      let wiped≡ : row-of (released e s) s ≡ cell-row (head (map free-cell free)) (free-cell s) =
-      released-same e s first-in-table first-not-zero ∙ ap (λ (r : Row). wiped (r .w0)) (c .first) ∙ ap wiped (omega arith) in
+      let wiped≡ : slot-at (released e s) s ≡ cell-slot (head (map free-cell free)) (free-cell s) =
+      released-same e s first-in-table first-not-zero ∙ ap (λ (r : Slot). free-slot (r .link)) (c .first) ∙ ap free-slot (omega arith) in
       record {
         small = c .small;
         room = length-released e s ∙ c .room;
-        first = released-top e s first-in-table first-not-zero ∙ ap (λ (r : Row). record { w0 = s; w1 = r .w1; w2 = r .w2; w3 = r .w3 }) (c .first);
+        first = released-top e s first-in-table first-not-zero ∙ ap (with-link s) (c .first);
         start = start-stays (released e s) off;
         each = ((first-inside .0, first-inside .1, wiped≡, stay .0), stay .1);
         once = still-once n (done ∷ map free-cell free ∷ (x ∷ xs) ∷ others) (done ∷ map free-cell (s ∷ free) ∷ xs ∷ others)
@@ -130,8 +129,8 @@ module _ (n clock : ℕ) (free : List ℕ) (done : List Cell) (h : ℕ) (x : Cel
       }
 
   -- It becomes another cell of the same slot, linked as before, in a table that has its row.
-  pub replaced : (x′ : Cell) (e′ : List ℕ) → x′ .slot ≡ x .slot → length e′ ≡ length e → Off (x .slot) e e′ → row-of e′ 0 ≡ row-of e 0
-      → row-of e′ (x .slot) ≡ cell-row (head xs) x′ → Cut n clock free done h ((x′ ∷ xs) ∷ others) e′
+  pub replaced : (x′ : Cell) (e′ : List ℕ) → x′ .slot ≡ x .slot → length e′ ≡ length e → Off (x .slot) e e′ → slot-at e′ 0 ≡ slot-at e 0
+      → slot-at e′ (x .slot) ≡ cell-slot (head xs) x′ → Cut n clock free done h ((x′ ∷ xs) ∷ others) e′
   replaced x′ e′ own len off zero row =
       let stay = rest-stays e′ off in
       record {
@@ -139,7 +138,7 @@ module _ (n clock : ℕ) (free : List ℕ) (done : List Cell) (h : ℕ) (x : Cel
         room = len ∙ c .room;
         first = zero ∙ c .first;
         start = start-stays e′ off;
-        each = (stay .0, ((omega (arith, own, first-inside .0), omega (arith, own, first-inside .1), ap (row-of e′) own ∙ row, stay .1 .0), stay .1 .1));
+        each = (stay .0, ((omega (arith, own, first-inside .0), omega (arith, own, first-inside .1), ap (slot-at e′) own ∙ row, stay .1 .0), stay .1 .1));
         once = still-once n (done ∷ map free-cell free ∷ (x ∷ xs) ∷ others) (done ∷ map free-cell free ∷ (x′ ∷ xs) ∷ others)
             (λ f. omega (arith, sum-cell f x xs, sum-cell f x′ xs, ap f own)) (c .once);
       }
@@ -153,7 +152,7 @@ shifted n clock free done h x xs ys others e c =
     let inside = first-inside n clock free done h x xs (ys ∷ others) e c in
     let off : Off s e e′ = λ t ne nz. linked-other e s (head ys) t ne in
     let stay = rest-stays n clock free done h x xs (ys ∷ others) e c e′ off in
-    let row : row-of e′ s ≡ cell-row (head ys) x =
+    let row : slot-at e′ s ≡ cell-slot (head ys) x =
     link-row n (c .small) e (c .room) (head xs) (head ys) (head-small n e ys (c .each .1 .1 .0)) x (inside .1) (head-small n e xs (c .each .1 .0 .3)) (c .each .1 .0 .2) in
     record {
       small = c .small;

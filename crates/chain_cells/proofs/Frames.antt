@@ -9,8 +9,8 @@ use lib.Dec.{eqb}
 use lib.ListN.{length}
 use Rattle.lists.specs.Lists.{sum, count}
 use Rattle.lists.proofs.Counting.{sum-append, sum-ones, count-sum}
-use Rattle.tables.specs.Words.{Row, row-of, kind-of}
-use Rattle.tables.specs.Placed.{Cell, head, cell-row}
+use Rattle.tables.specs.Slots.{entry-length, Slot, slot-at, link-to, kind-of, with-link}
+use Rattle.tables.specs.Placed.{Cell, head, cell-slot}
 use Rattle.tables.proofs.Cells.{Chained, AllChained, cell-slots, chain-slots, times, times-append, times-head}
 use Rattle.tables.proofs.Once.{OnceFacts, once-most}
 use Rattle.chain_links.specs.Links.{linked}
@@ -19,7 +19,7 @@ use Rattle.chain_links.proofs.Links.{linked-other, linked-same}
 
 -- Two tables that differ at slot s, and at slot 0, only.
 abbrev pub Off : ℕ → List ℕ → List ℕ → Type 0
-Off s e e′ = (t : ℕ) → t ≢ s → t ≢ 0 → row-of e′ t ≡ row-of e t
+Off s e e′ = (t : ℕ) → t ≢ s → t ≢ 0 → slot-at e′ t ≡ slot-at e t
 
 -- The first cell's slot, where another chain follows.
 abbrev pub first-or : ℕ → List Cell → ℕ
@@ -29,7 +29,7 @@ first-or h (c ∷ cs) = c .slot
 -- The table has these cells, each linked to the next, and the last to slot h.
 abbrev pub ChainedTo : ℕ → List ℕ → ℕ → List Cell → Type 0
 ChainedTo n e h [] = h ≤ n
-ChainedTo n e h (c ∷ cs) = (1 ≤ c .slot) × (c .slot ≤ n) × (row-of e (c .slot) ≡ cell-row (first-or h cs) c) × ChainedTo n e h cs
+ChainedTo n e h (c ∷ cs) = (1 ≤ c .slot) × (c .slot ≤ n) × (slot-at e (c .slot) ≡ cell-slot (first-or h cs) c) × ChainedTo n e h cs
 
 -- A slot that stands nowhere in a list is not its first.
 apart : (s t : ℕ) (ss : List ℕ) → times s (t ∷ ss) ≡ 0 → t ≢ s
@@ -83,7 +83,7 @@ head-append (c ∷ cs) left = refl
 module _ (n : ℕ) (e : List ℕ) where
   pub chain-start : (done left : List Cell) → head left ≤ n → Chained n e (done ++ left) → ChainedTo n e (head left) done
   chain-start [] left s h = s
-  chain-start (c ∷ cs) left s h = (h .0, h .1, h .2 ∙ ap (λ (k : ℕ). cell-row k c) (head-append cs left), chain-start cs left s (h .3))
+  chain-start (c ∷ cs) left s h = (h .0, h .1, h .2 ∙ ap (λ (k : ℕ). cell-slot k c) (head-append cs left), chain-start cs left s (h .3))
 
   pub chain-end : (done left : List Cell) → Chained n e (done ++ left) → Chained n e left
   chain-end [] left h = h
@@ -91,7 +91,7 @@ module _ (n : ℕ) (e : List ℕ) where
 
   pub chain-whole : (done left : List Cell) → ChainedTo n e (head left) done → Chained n e left → Chained n e (done ++ left)
   chain-whole [] left d l = l
-  chain-whole (c ∷ cs) left d l = (d .0, d .1, d .2 ∙ ap (λ (k : ℕ). cell-row k c) (sym (head-append cs left)), chain-whole cs left (d .3) l)
+  chain-whole (c ∷ cs) left d l = (d .0, d .1, d .2 ∙ ap (λ (k : ℕ). cell-slot k c) (sym (head-append cs left)), chain-whole cs left (d .3) l)
 
 times-tail : (t s : ℕ) (ss : List ℕ) → times t ss ≤ times t (s ∷ ss)
 unfolding count
@@ -107,13 +107,13 @@ last-inside n e h s [] a b c = (a, b)
 last-inside n e h s (d ∷ ds) a b c = last-inside n e h (d .slot) ds (c .0) (c .1) (c .3)
 
 -- A cell linked to another slot, and cells whose last is: they now lead there.
-module _ (n : ℕ) (small : n ≤ 65535) (e : List ℕ) (room : length e ≡ 4 * (n + 1)) (h h′ : ℕ) (inside : h′ ≤ n) where
-  pub link-row : (c : Cell) → c .slot ≤ n → h ≤ n → row-of e (c .slot) ≡ cell-row h c → row-of (linked e (c .slot) h′) (c .slot) ≡ cell-row h′ c
+module _ (n : ℕ) (small : n ≤ 65535) (e : List ℕ) (room : length e ≡ entry-length n) (h h′ : ℕ) (inside : h′ ≤ n) where
+  pub link-row : (c : Cell) → c .slot ≤ n → h ≤ n → slot-at e (c .slot) ≡ cell-slot h c → slot-at (linked e (c .slot) h′) (c .slot) ≡ cell-slot h′ c
   link-row c i b r =
-      let kind≡ : kind-of e (c .slot) ≡ c .kind = ap (λ (x : Row). x .w0 / 65536) r ∙ omega arith in
+      let kind≡ : kind-of e (c .slot) ≡ c .kind = ap (λ (x : Slot). x .link / 65536) r ∙ omega arith in
       linked-same e (c .slot) h′ (omega arith)
-      ∙ ap (λ (k : ℕ). record { w0 = h′ + 65536 * k; w1 = row-of e (c .slot) .w1; w2 = row-of e (c .slot) .w2; w3 = row-of e (c .slot) .w3 }) kind≡
-      ∙ ap (λ (x : Row). record { w0 = h′ + 65536 * c .kind; w1 = x .w1; w2 = x .w2; w3 = x .w3 }) r
+      ∙ ap (λ (k : ℕ). with-link (link-to h′ k) (slot-at e (c .slot))) kind≡
+      ∙ ap (with-link (link-to h′ (c .kind))) r
 
   pub relink : (c : Cell) (cs : List Cell) → ((s : ℕ) → times s (cell-slots (c ∷ cs)) ≤ 1) → ChainedTo n e h (c ∷ cs) → ChainedTo n (linked e (last-from (c .slot) cs) h′) h′ (c ∷ cs)
   relink c [] o k = (k .0, k .1, link-row c (k .1) (k .3) (k .2), inside)

@@ -4,8 +4,9 @@ use mathlib.Core.List.{List, [], _∷_, _++_, map, append-assoc}
 use Prim.Native.Nat.{ℕ}
 use native.Mathlib.Omega.{arith}
 use lib.ListN.{length}
-use Rattle.tables.specs.Words.{Row, row-of}
-use Rattle.tables.specs.Placed.{Cell, free-cell, head, cell-row}
+use Rattle.tables.specs.Slots.{slot-at}
+use Rattle.tables.specs.Slots as slots
+use Rattle.tables.specs.Placed.{Cell, free-cell, head, cell-slot}
 use Rattle.tables.proofs.Cells.{AllChained, times-head, cell-slots}
 use Rattle.tables.proofs.Reading.{head-small}
 use Rattle.chain_links.specs.Links.{linked, released, stamped}
@@ -47,7 +48,7 @@ module _ (n clock : ℕ) (free : List ℕ) where
 
   -- A cell's row replaced by that of another cell of its slot, linked as before.
   pub rewritten-first : (done : List Cell) (c c′ : Cell) (cs : List Cell) (others : List (List Cell)) (e e′ : List ℕ) → Held n clock free ((done ++ c ∷ cs) ∷ others) e
-      → c′ .slot ≡ c .slot → length e′ ≡ length e → Off (c .slot) e e′ → row-of e′ 0 ≡ row-of e 0 → row-of e′ (c .slot) ≡ cell-row (head cs) c′
+      → c′ .slot ≡ c .slot → length e′ ≡ length e → Off (c .slot) e e′ → slot-at e′ 0 ≡ slot-at e 0 → slot-at e′ (c .slot) ≡ cell-slot (head cs) c′
       → Held n clock free ((done ++ c′ ∷ cs) ∷ others) e′
   rewritten-first done c c′ cs others e e′ h own len off zero row =
       join n clock free done (c′ ∷ cs) others e′
@@ -75,7 +76,7 @@ module _ (n clock : ℕ) (free : List ℕ) where
 
   -- The same of a cell of the second chain.
   pub rewritten : (a done : List Cell) (c c′ : Cell) (cs : List Cell) (others : List (List Cell)) (e e′ : List ℕ) → Held n clock free (a ∷ (done ++ c ∷ cs) ∷ others) e
-      → c′ .slot ≡ c .slot → length e′ ≡ length e → Off (c .slot) e e′ → row-of e′ 0 ≡ row-of e 0 → row-of e′ (c .slot) ≡ cell-row (head cs) c′
+      → c′ .slot ≡ c .slot → length e′ ≡ length e → Off (c .slot) e e′ → slot-at e′ 0 ≡ slot-at e 0 → slot-at e′ (c .slot) ≡ cell-slot (head cs) c′
       → Held n clock free (a ∷ (done ++ c′ ∷ cs) ∷ others) e′
   rewritten a done c c′ cs others e e′ h own len off zero row =
       swapped (done ++ c′ ∷ cs) a others e′ (rewritten-first done c c′ cs (a ∷ others) e e′ (swapped a (done ++ c ∷ cs) others e h) own len off zero row)
@@ -87,11 +88,11 @@ module _ (n clock : ℕ) (free : List ℕ) where
       rewritten a done c (with-stamp c t) cs others e (stamped e (c .slot) t) h refl (length-stamped e (c .slot) t)
       (λ u ne nz. stamped-other e (c .slot) t u ne)
       (stamped-other e (c .slot) t 0 (omega (arith, here .each .1 .0 .0)))
-      (stamped-same e (c .slot) t (omega (arith, here .room, here .each .1 .0 .1)) ∙ ap (λ (r : Row). record { w0 = r .w0; w1 = r .w1; w2 = r .w2; w3 = t }) (here .each .1 .0 .2))
+      (stamped-same e (c .slot) t (omega (arith, here .room, here .each .1 .0 .1)) ∙ ap (slots.with-stamp t) (here .each .1 .0 .2))
 
 -- The first free slot filled: a chain of that one cell.
 pub taken : (n clock x : ℕ) (free : List ℕ) (c : Cell) (chains : List (List Cell)) (e e′ : List ℕ) → Held n clock (x ∷ free) chains e → c .slot ≡ x → length e′ ≡ length e
-    → row-of e′ 0 ≡ top free clock → row-of e′ x ≡ cell-row 0 c → Off x e e′ → Held n clock free ((c ∷ []) ∷ chains) e′
+    → slot-at e′ 0 ≡ top free clock → slot-at e′ x ≡ cell-slot 0 c → Off x e e′ → Held n clock free ((c ∷ []) ∷ chains) e′
 taken n clock x free c chains e e′ h own len zero row off =
     let old : List (List Cell) = map free-cell (x ∷ free) ∷ chains in
     let new : List (List Cell) = map free-cell free ∷ (c ∷ []) ∷ chains in
@@ -103,7 +104,7 @@ taken n clock x free c chains e e′ h own len zero row off =
       holds = record {
         room = len ∙ h .holds .room;
         first = zero;
-        each = (stay .0, ((omega (arith, own, inside .0), omega (arith, own, inside .1), ap (row-of e′) own ∙ row, tt), stay .1));
+        each = (stay .0, ((omega (arith, own, inside .0), omega (arith, own, inside .1), ap (slot-at e′) own ∙ row, tt), stay .1));
       };
       once = still-once n old new (λ f. omega (arith, sum-cell f (free-cell x) (map free-cell free), sum-cell f c [], sum-none f, ap f own)) (h .once);
     }

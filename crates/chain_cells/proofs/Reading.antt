@@ -4,22 +4,21 @@ use mathlib.Core.List.{List, [], _∷_, _++_, map}
 use Prim.Native.Nat.{ℕ, _+_, _<_, _≤_}
 use native.Mathlib.Omega.{arith}
 use lib.ListN.{length, length-append, length-map}
-use Rattle.tables.specs.Words.{Row, row-of, next-of}
+use Rattle.tables.specs.Slots.{InTable, slot-at, next-of}
 use Rattle.tables.specs.Sound.{chain-from}
 use Rattle.tables.specs.Placed.{Cell, free-cell, head}
-use Rattle.tables.proofs.Rows.{InTable}
 use Rattle.tables.proofs.Cells.{Chained, cell-slots, chain-slots}
 use Rattle.tables.proofs.Once.{OnceFacts}
 use Rattle.tables.proofs.Reading.{head-small, next-at, kind-at, chain-reads}
-use Rattle.chain_cells.specs.Cells.{cell-at, last-from, last-slot}
+use Rattle.chain_cells.specs.Cells.{cell-from, cell-at, last-from, last-slot}
 use Rattle.chain_cells.specs.Held.{Held}
 use Rattle.chain_cells.proofs.Frames.{ChainedTo, last-inside}
 use Rattle.chain_cells.proofs.Cuts.{Cut, cut}
 
 cell-reads : (n : ℕ) (e : List ℕ) → n ≤ 65535 → (c : Cell) (cs : List Cell) → Chained n e (c ∷ cs) → cell-at e (c .slot) ≡ c
 cell-reads n e small c cs h =
-    ap (λ (k : ℕ). record { slot = c .slot; kind = k; span = row-of e (c .slot) .w1; tally = row-of e (c .slot) .w2; stamp = row-of e (c .slot) .w3 }) (kind-at n e (omega arith) c cs h)
-    ∙ ap (λ (r : Row). record { slot = c .slot; kind = c .kind; span = r .w1; tally = r .w2; stamp = r .w3 }) (h .2)
+    ap (λ (k : ℕ). cell-from (c .slot) k (slot-at e (c .slot))) (kind-at n e (omega arith) c cs h)
+    ∙ ap (cell-from (c .slot) (c .kind)) (h .2)
 
 cells-read : (n : ℕ) (e : List ℕ) → n ≤ 65535 → (cs : List Cell) → Chained n e cs → map (cell-at e) (cell-slots cs) ≡ cs
 cells-read n e small [] h = refl

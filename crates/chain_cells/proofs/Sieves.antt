@@ -9,10 +9,9 @@ use lib.ListN.{length, drop}
 use Rattle.lists.specs.Lists.{select, reject}
 use Rattle.lists.specs.All.{Exists}
 use Rattle.model.specs.Merge.{release}
-use Rattle.tables.specs.Words.{next-of}
+use Rattle.tables.specs.Slots.{InTable, next-of}
 use Rattle.tables.specs.Sound.{chain-from}
 use Rattle.tables.specs.Placed.{Cell, head}
-use Rattle.tables.proofs.Rows.{InTable}
 use Rattle.tables.proofs.Cells.{cell-slots}
 use Rattle.chain_links.specs.Links.{linked, released}
 use Rattle.chain_cells.specs.Cells.{cell-at, last-slot}

@@ -8,10 +8,9 @@ use lib.ListN.{length}
 use borrow.Author.Tests.{lt-ltb, le-ltb}
 use Rattle.lists.specs.Lists.{merge}
 use Rattle.lists.specs.All.{Exists}
-use Rattle.tables.specs.Words.{next-of}
+use Rattle.tables.specs.Slots.{InTable, next-of}
 use Rattle.tables.specs.Sound.{chain-from, order-key}
 use Rattle.tables.specs.Placed.{Cell, head}
-use Rattle.tables.proofs.Rows.{InTable}
 use Rattle.chain_links.specs.Links.{linked}
 use Rattle.chain_cells.specs.Cells.{cell-key, cell-before}
 use Rattle.chain_cells.specs.Held.{Held}

@@ -5,11 +5,15 @@ use Prim.Native.Nat.{ℕ, _+_, _*_, _/_, _%_}
 use lib.Dec.{ltb}
 use Rattle.settings.specs.Limits.{within}
 use Rattle.lists.specs.Lists.{any}
-use Rattle.tables.specs.Words.{row-of, kind-of, tally-of, stamp-of}
+use Rattle.tables.specs.Slots.{Slot, slot-at, kind-of}
 use Rattle.tables.specs.Placed.{Cell}
 
+-- The cell of a slot, by its number, its kind and its words.
+abbrev pub cell-from : ℕ → ℕ → Slot → Cell
+cell-from s kind r = record { slot = s; kind = kind; span = r .span; tally = r .tally; stamp = r .stamp }
+
 abbrev pub cell-at : List ℕ → ℕ → Cell
-cell-at e s = record { slot = s; kind = kind-of e s; span = row-of e s .w1; tally = tally-of e s; stamp = stamp-of e s }
+cell-at e s = cell-from s (kind-of e s) (slot-at e s)
 
 abbrev pub cell-lo : Cell → ℕ
 cell-lo c = c .span % 65536

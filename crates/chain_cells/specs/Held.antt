@@ -1,14 +1,14 @@
 -- A table of n slots that holds a free chain and other chains, each slot once.
 use mathlib.Core.List.{List, _∷_, map}
 use Prim.Native.Nat.{ℕ, _≤_}
-use Rattle.tables.specs.Words.{Row}
+use Rattle.tables.specs.Slots.{Slot, top-slot}
 use Rattle.tables.specs.Placed.{Cell, free-cell, head}
 use Rattle.tables.proofs.Cells.{chain-slots, Holds}
 use Rattle.tables.proofs.Once.{OnceFacts}
 
--- Slot 0's row: the first free slot, and the last clock.
-abbrev pub top : List ℕ → ℕ → Row
-top free clock = record { w0 = head (map free-cell free); w1 = clock; w2 = 0; w3 = 0 }
+-- Slot 0: the first free slot, and the last clock.
+abbrev pub top : List ℕ → ℕ → Slot
+top free clock = top-slot (head (map free-cell free)) clock
 
 pub record Held (n clock : ℕ) (free : List ℕ) (chains : List (List Cell)) (e : List ℕ) : Type 0 where
   pub small : n ≤ 65535

@@ -10,7 +10,9 @@ use lib.Dec.{eqb, leb}
 use lib.ListN.{length}
 use Rattle.lists.specs.All.{All}
 use Rattle.lists.proofs.Bools.{cond-elim, and-left, and-right, and-intro}
-use Rattle.tables.specs.Words.{Fits32, next-of, lo-of}
+use Rattle.tables.proofs.Slots.{hi-small}
+use Rattle.tables.specs.Words.{Fits32}
+use Rattle.tables.specs.Slots.{InTable, next-of, lo-of}
 use Rattle.tables.specs.Sound.{chain, chain-from, ascend, order-key}
 use Rattle.chain_cover.specs.Walks.{Walkable, Ordered}
 
@@ -42,7 +44,7 @@ module _ (e : List ℕ) where
 
 -- The chain from h is h and the chain from the next slot, which comes after it.
 pub record On (e : List ℕ) (h : ℕ) : Type 0 where
-  pub within : 4 * h + 3 < length e
+  pub within : InTable e h
   pub whole : chain-from e h ≡ h ∷ chain-from e (next-of e h)
   pub after : ascend e (order-key e h + 1) (chain-from e (next-of e h)) ≡ true
   pub rest : Ordered e (next-of e h)
@@ -78,7 +80,7 @@ module _ (e : List ℕ) (words : Fits32 e) where
       let up : least ≤ order-key e s =
       leb-true least (order-key e s) (and-left (leb least (order-key e s)) (ascend e (order-key e s + 1) ss) a)
       in (
-        omega (arith, words (4 * s + 1)),
+        omega (arith, hi-small e words s),
         all-past k (order-key e s + 1) ss (omega arith)
             (and-right (leb least (order-key e s)) (ascend e (order-key e s + 1) ss) a),
       )

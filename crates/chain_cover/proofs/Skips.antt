@@ -9,7 +9,7 @@ use lib.Dec.{leb, ltb}
 use lib.ListN.{length}
 use Rattle.lists.specs.Lists.{any}
 use Rattle.lists.proofs.Bools.{cond-elim, and-false-right, and-right}
-use Rattle.tables.specs.Words.{next-of, lo-of, hi-of}
+use Rattle.tables.specs.Slots.{next-of, lo-of, hi-of}
 use Rattle.tables.specs.Sound.{chain-from, ascend, order-key}
 use Rattle.chain_cover.specs.Walks.{Walkable, Ordered}
 use Rattle.chain_cover.specs.Skips.{drop-while, first-slot, from-bound, reaching}

@@ -8,7 +8,8 @@ use borrow.Author.Tests.{le-leb, lt-leb}
 use Rattle.lists.specs.All.{All}
 use Rattle.lists.specs.Lists.{any}
 use Rattle.model.specs.Merge.{covered}
-use Rattle.tables.specs.Words.{Fits32, next-of, lo-of, hi-of}
+use Rattle.tables.specs.Words.{Fits32}
+use Rattle.tables.specs.Slots.{next-of, lo-of, hi-of}
 use Rattle.tables.specs.Sound.{chain-from}
 use Rattle.tables.specs.Placed.{read-range}
 use Rattle.chain_cover.proofs.Chains.{On, chain-end, past}

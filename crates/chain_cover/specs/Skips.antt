@@ -3,7 +3,7 @@ use mathlib.Core.Bool.{Bool, cond}
 use mathlib.Core.List.{List, [], _∷_}
 use Prim.Native.Nat.{ℕ}
 use lib.Dec.{ltb}
-use Rattle.tables.specs.Words.{lo-of, hi-of}
+use Rattle.tables.specs.Slots.{lo-of, hi-of}
 
 -- The list from the first element on that fails the test.
 unfoldable pub drop-while : {X : Type 0} → (X → Bool) → List X → List X

@@ -7,10 +7,9 @@ use Prim.Native.Nat.{ℕ, _<_}
 use native.Mathlib.Omega.{arith}
 use lib.ListN.{length}
 use Rattle.lists.specs.Lists.{select}
-use Rattle.tables.specs.Words.{next-of}
+use Rattle.tables.specs.Slots.{InTable, next-of}
 use Rattle.tables.specs.Sound.{chain-from}
 use Rattle.tables.specs.Placed.{Cell, head}
-use Rattle.tables.proofs.Rows.{InTable}
 use Rattle.chain_cells.specs.Cells.{cell-at}
 use Rattle.chain_cells.specs.Held.{Held}
 use Rattle.chain_cells.specs.Sifting.{Chain, OneHeld}

@@ -11,6 +11,7 @@ ghost use Prim.Native.Nat.{_+_, _*_, _<_};
 ghost use lib.ListN.{length};
 ghost use Rattle.lists.specs.All.{Exists};
 ghost use Rattle.lists.specs.Lists.{select};
+ghost use Rattle.tables.specs.Slots.{InTable};
 ghost use Rattle.tables.specs.Placed.{head};
 ghost use Rattle.chain_cells.specs.Cells.{cell-at};
 ghost use Rattle.chain_cells.specs.Sifting.{Chain, OneHeld, Sifted};
@@ -59,7 +60,7 @@ pub fn first_doomed(e: &[u32], first: usize, which: Doomed) -> usize
 
 // Whether the cell at a slot goes.
 fn is_doomed(e: &[u32], slot: usize, which: Doomed) -> bool
-    requires { ⌜ 4 * slot + 3 < length (now e) ⌝ }
+    requires { ⌜ InTable (now e) slot ⌝ }
     ensures { λ r. ⌜ r ≡ doomed which (cell-at (now (e .entry)) slot) ⌝ }
 {
     match which {

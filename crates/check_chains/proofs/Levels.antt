@@ -9,9 +9,12 @@ use borrow.Author.Tests.{eq-eqb}
 use lib.Dec.{eqb}
 use lib.ListN.{length}
 use Rattle.lists.proofs.Bools.{and-right}
-use Rattle.tables.specs.Words.{row-of, slots-of, settings-of, level-row}
-use Rattle.tables.specs.Sound.{free-chain, level-sound}
+use Rattle.tables.specs.Slots.{slots-of, first-free}
+use Rattle.tables.specs.Rows.{settings-of, level-row}
+use Rattle.tables.specs.Sound.{chain-from, free-chain, level-sound, top-blank}
 use Rattle.check_forms.specs.declared.Class.the-variants.{Free}
+use Rattle.table_levels.specs.declared.Level.{Level}
+use Rattle.table_levels.specs.Levels.{level-at}
 use Rattle.check_walk.specs.declared.Walked.{Walked}
 use Rattle.check_walk.specs.Walks.{Marked, walked, unmarked}
 use Rattle.check_walk.proofs.Each.{unmarked-each}
@@ -74,17 +77,23 @@ module _ {e l m₀ : List ℕ} {free : ℕ} where
             rest = rw less (rw q at here);
           }
 
+-- What the deepest level owes, as the code reads it.
+pub deepest-owed : (l : List ℕ) {v : Level} {d : ℕ} → v ≡ level-at l d → d ≡ settings-of l .deepest → v .owed ≡ level-row l (settings-of l .deepest) .owed
+deepest-owed l is d = ap (λ (x : Level). x .owed) is ∙ ap (λ (k : ℕ). level-row l k .owed) d
+
 -- The chains once the words beside them are right, after a walk along the free chain.
-module _ (e l m : List ℕ) (a : row-of e 0 .w2 ≡ 0) (b : row-of e 0 .w3 ≡ 0) (d : level-row l (settings-of l .deepest) .w3 ≡ 0) where
-  module _ {m1 : List ℕ} {f : Walked} (w : record { answer = f; marks = m1 } ≡ walked Free e 0 0 0 m (free-chain e)) where
+module _ (e l m : List ℕ) (a : top-blank e ≡ true) (d : level-row l (settings-of l .deepest) .owed ≡ 0) where
+  module _ {first : ℕ} (is : first ≡ first-free e) {m1 : List ℕ} {f : Walked} (w : record { answer = f; marks = m1 } ≡ walked Free e 0 0 0 m (chain-from e first)) where
+    free-walked : record { answer = f; marks = m1 } ≡ walked Free e 0 0 0 m (free-chain e)
+    free-walked = rw is at w
+
     pub chains-fail : f .fits ≡ false → unfit m1 ≡ chains-checked e l m
     unfolding chains-checked
     chains-fail q =
         rw (
-          eq-eqb (row-of e 0 .w2) 0 a,
-          eq-eqb (row-of e 0 .w3) 0 b,
-          eq-eqb (level-row l (settings-of l .deepest) .w3) 0 d,
-          ← w,
+          a,
+          eq-eqb (level-row l (settings-of l .deepest) .owed) 0 d,
+          ← free-walked,
           q,
         )
 
@@ -92,9 +101,8 @@ module _ (e l m : List ℕ) (a : row-of e 0 .w2 ≡ 0) (b : row-of e 0 .w3 ≡ 0
     unfolding chains-checked
     chains-go q =
         rw (
-          eq-eqb (row-of e 0 .w2) 0 a,
-          eq-eqb (row-of e 0 .w3) 0 b,
-          eq-eqb (level-row l (settings-of l .deepest) .w3) 0 d,
-          ← w,
+          a,
+          eq-eqb (level-row l (settings-of l .deepest) .owed) 0 d,
+          ← free-walked,
           q,
         )

@@ -12,8 +12,9 @@ use Rattle.lists.specs.Lists.{none, every}
 use Rattle.lists.specs.All.{All}
 use Rattle.lists.proofs.Bools.{cond-and, and-ap}
 use Rattle.lists.proofs.Tests.{all-append}
-use Rattle.tables.specs.Words.{row-of, clock-of, slots-of, settings-of, level-row, first-free}
-use Rattle.tables.specs.Sound.{free-chain, point-chain, range-chain, is-free, is-point, is-range, order-key, ascend, is-stamped, owed-before, level-sound, levels-sound, record-slots, every-slot-once, chains-sound}
+use Rattle.tables.specs.Slots.{slots-of, first-free, clock-of}
+use Rattle.tables.specs.Rows.{settings-of, level-row}
+use Rattle.tables.specs.Sound.{free-chain, point-chain, range-chain, is-free, is-point, is-range, order-key, ascend, is-stamped, owed-before, level-sound, levels-sound, record-slots, every-slot-once, chains-sound, top-blank}
 use Rattle.check_forms.specs.declared.Class.the-variants.{Free, Points, Ranges}
 use Rattle.check_forms.specs.Forms.{record-fits, row-fits}
 use Rattle.check_walk.specs.Walks.{Marked, walked}
@@ -81,12 +82,12 @@ level-bool x y s₁ o₁ s₂ o₂ n c z =
     ∙ sym (and-assoc all n (c && z)) ∙ sym (and-assoc (all && n) c z)
 
 module _ (e l : List ℕ) (i : ℕ) where
-  level-rows : rows-fit Points e (level-row l i .w3) 0 (point-chain e l i)
-      && (rows-fit Ranges e (level-row l i .w3) 0 (range-chain e l i) && numbers-fit e l i (length (level-slots e l i)))
+  level-rows : rows-fit Points e (level-row l i .owed) 0 (point-chain e l i)
+      && (rows-fit Ranges e (level-row l i .owed) 0 (range-chain e l i) && numbers-fit e l i (length (level-slots e l i)))
       ≡ level-sound e l i
   unfolding level-sound numbers-fit
   level-rows =
-      let owed = level-row l i .w3 in
+      let owed = level-row l i .owed in
       let ps = point-chain e l i in
       let rs = range-chain e l i in
       rw (
@@ -96,7 +97,7 @@ module _ (e l : List ℕ) (i : ℕ) where
         every-append (is-stamped e) ps rs,
         every-append (owed-before e owed) ps rs,
       )
-      (level-bool (every (is-point e) ps && ascend e 0 ps) (every (is-range e) rs && ascend e 0 rs) (every (is-stamped e) ps) (every (owed-before e owed) ps) (every (is-stamped e) rs) (every (owed-before e owed) rs) (eqb (level-row l i .w2) (length (ps ++ rs))) (leb owed (clock-of e)) (not (none (ps ++ rs)) || eqb owed 0))
+      (level-bool (every (is-point e) ps && ascend e 0 ps) (every (is-range e) rs && ascend e 0 rs) (every (is-stamped e) ps) (every (owed-before e owed) ps) (every (is-stamped e) rs) (every (owed-before e owed) rs) (eqb (level-row l i .held) (length (ps ++ rs))) (leb owed (clock-of e)) (not (none (ps ++ rs)) || eqb owed 0))
 
   tail-bool : (a p b q n : Bool) → (a && p) && ((b && q) && n) ≡ (a && (b && n)) && (p && q)
   tail-bool a p b q true = rw (right (b && q), right b) (and-swap a p b q)
@@ -113,7 +114,7 @@ module _ (e l : List ℕ) (i : ℕ) where
   -- A level is sound, and its slots have no mark yet.
   pub level-means : (m : List ℕ) → leveled e l i m .answer .fits ≡ level-sound e l i && unmarked-each (slots-of e) m (level-slots e l i)
   level-means m =
-      let owed = level-row l i .w3 in
+      let owed = level-row l i .owed in
       let ps = point-chain e l i in
       let rs = range-chain e l i in
       level-asks e l i m
@@ -145,7 +146,7 @@ module _ (e l : List ℕ) where
 
   pub level-nonzero : (i : ℕ) → All (λ s. s ≢ 0) (level-slots e l i)
   level-nonzero i =
-      all-append (λ s. s ≢ 0) (point-chain e l i) (range-chain e l i) (chain-nonzero (length e) e (level-row l i .w0)) (chain-nonzero (length e) e (level-row l i .w1))
+      all-append (λ s. s ≢ 0) (point-chain e l i) (range-chain e l i) (chain-nonzero (length e) e (level-row l i .points)) (chain-nonzero (length e) e (level-row l i .ranges))
 
   records-nonzero : (j i : ℕ) → All (λ s. s ≢ 0) (record-slots e l j i)
   unfolding record-slots
@@ -155,15 +156,14 @@ module _ (e l : List ℕ) where
   pub slots-nonzero : (j : ℕ) → All (λ s. s ≢ 0) (free-chain e ++ record-slots e l j 0)
   slots-nonzero j = all-append (λ s. s ≢ 0) (free-chain e) (record-slots e l j 0) (chain-nonzero (length e) e (first-free e)) (records-nonzero j 0)
 
-chains-bool : (a b f l o q : Bool) → (a && (b && o)) && ((f && l) && q) ≡ a && b && f && l && o && q
-chains-bool false b f l o q = refl
-chains-bool true false f l o q = refl
-chains-bool true true true true true q = refl
-chains-bool true true true true false q = refl
-chains-bool true true true false true q = refl
-chains-bool true true true false false q = refl
-chains-bool true true false l true q = refl
-chains-bool true true false l false q = refl
+chains-bool : (a f l o q : Bool) → (a && o) && ((f && l) && q) ≡ a && f && l && o && q
+chains-bool false f l o q = refl
+chains-bool true true true true q = refl
+chains-bool true true true false q = refl
+chains-bool true true false true q = refl
+chains-bool true true false false q = refl
+chains-bool true false l true q = refl
+chains-bool true false l false q = refl
 
 -- The levels are asked only over the marks of a free chain that fits.
 chains-ask : (e l m : List ℕ)
@@ -199,4 +199,4 @@ chains-mean e l m h b =
     ∙ ap (λ (t : Bool). (every (is-free e) free && levels-sound e l (suc d) 0) && t) (sym (and-assoc (unmarked-each n m free) (unmarked-each n (mark-each m free) records) last))) in
     chains-ask e l m
     ∙ ap (λ (t : Bool). words-fit e l && t) all
-    ∙ chains-bool (eqb (row-of e 0 .w2) 0) (eqb (row-of e 0 .w3) 0) (every (is-free e) free) (levels-sound e l (suc d) 0) (eqb (level-row l d .w3) 0) (every-slot-once n (free ++ records))
+    ∙ chains-bool (top-blank e) (every (is-free e) free) (levels-sound e l (suc d) 0) (eqb (level-row l d .owed) 0) (every-slot-once n (free ++ records))

@@ -3,8 +3,9 @@ use mathlib.Core.Bool.{Bool, false, cond, _&&_}
 use mathlib.Core.List.{List}
 use Prim.Native.Nat.{ℕ, zero, suc, _+_}
 use lib.Dec.{eqb}
-use Rattle.tables.specs.Words.{row-of, slots-of, settings-of, level-row}
-use Rattle.tables.specs.Sound.{free-chain}
+use Rattle.tables.specs.Slots.{slots-of}
+use Rattle.tables.specs.Rows.{settings-of, level-row}
+use Rattle.tables.specs.Sound.{free-chain, top-blank}
 use Rattle.check_forms.specs.declared.Class.the-variants.{Free}
 use Rattle.check_walk.specs.Walks.{Marked, walked}
 use Rattle.check_level.specs.Levels.{leveled}
@@ -20,9 +21,9 @@ levels-checked e l (suc j) i m total =
     let here = leveled e l i m in
     cond (here .answer .fits) (levels-checked e l j (suc i) (here .marks) (total + here .answer .count)) (unfit (here .marks))
 
--- The last two words of slot 0 and what the deepest level owes are zero.
+-- The words of slot 0 beside the first free slot and the clock, and what the deepest level owes are zero.
 abbrev pub words-fit : List ℕ → List ℕ → Bool
-words-fit e l = eqb (row-of e 0 .w2) 0 && (eqb (row-of e 0 .w3) 0 && eqb (level-row l (settings-of l .deepest) .w3) 0)
+words-fit e l = top-blank e && eqb (level-row l (settings-of l .deepest) .owed) 0
 
 -- The words beside the chains, the free chain, then the levels over its marks.
 unfoldable pub chains-checked : List ℕ → List ℕ → List ℕ → Marked Bool

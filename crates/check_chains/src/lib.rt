@@ -2,11 +2,16 @@
 use check_forms::Class;
 use check_level::level;
 use check_walk::walk;
+use table_levels::deepest_of;
+use table_levels::level_at;
+use table_slots::first_free;
+use table_slots::is_top_blank;
 use table_slots::slot_count;
 ghost use mathlib.Core.Path.{_≡_};
 ghost use Prim.Native.Nat.{_+_, _*_, _<_, _≤_};
 ghost use lib.ListN.{length};
-ghost use Rattle.tables.specs.Words.{slots-of, settings-of};
+ghost use Rattle.tables.specs.Slots.{slots-of};
+ghost use Rattle.tables.specs.Rows.{level-length, settings-of};
 ghost use Rattle.check_walk.specs.Slots.{Entries};
 ghost use Rattle.check_walk.specs.Walks.{unmarked};
 ghost use Rattle.check_chains.specs.Levels.{levels-checked, chains-checked};
@@ -16,11 +21,11 @@ fn levels_fit(e: &[u32], l: &[u32], free: usize, marks: &mut [u8]) -> bool
     requires { ⌜ Entries (now e) ⌝ }
     requires { ⌜ slots-of (now e) < 8 * length (now marks) ⌝ }
     requires { ⌜ settings-of (now l) .deepest ≤ 6 ⌝ }
-    requires { ⌜ length (now l) ≡ 4 * (settings-of (now l) .deepest + 2) ⌝ }
+    requires { ⌜ length (now l) ≡ level-length (settings-of (now l) .deepest) ⌝ }
     requires { ⌜ free + unmarked (slots-of (now e)) (now marks) ≤ slots-of (now e) ⌝ }
     ensures { λ r. ⌜ record { answer = r; marks = now (marks .exit) } ≡ levels-checked (now (e .entry)) (now (l .entry)) (settings-of (now (l .entry)) .deepest + 1) 0 (now (marks .entry)) free ⌝ }
 {
-    let deepest = l[0] as usize;
+    let deepest = deepest_of(l);
     let mut total = free;
     let mut i = 0;
     while i <= deepest {
@@ -39,21 +44,18 @@ pub fn chains_fit(e: &[u32], l: &[u32], marks: &mut [u8]) -> bool
     requires { ⌜ Entries (now e) ⌝ }
     requires { ⌜ slots-of (now e) < 8 * length (now marks) ⌝ }
     requires { ⌜ settings-of (now l) .deepest ≤ 6 ⌝ }
-    requires { ⌜ length (now l) ≡ 4 * (settings-of (now l) .deepest + 2) ⌝ }
+    requires { ⌜ length (now l) ≡ level-length (settings-of (now l) .deepest) ⌝ }
     ensures { λ r. ⌜ record { answer = r; marks = now (marks .exit) } ≡ chains-checked (now (e .entry)) (now (l .entry)) (now (marks .entry)) ⌝ }
 {
-    if e[2] != 0 {
+    if !is_top_blank(e) {
         return false;
     }
-    if e[3] != 0 {
-        return false;
-    }
-    let deepest = l[0] as usize;
+    let deepest = level_at(l, deepest_of(l));
     // Without owed the deepest level can hold no delete.
-    if l[4 * (deepest + 1) + 3] != 0 {
+    if deepest.owed != 0 {
         return false;
     }
-    let free = walk(Class::Free, e, e[0] as usize, 0, marks);
+    let free = walk(Class::Free, e, first_free(e), 0, marks);
     if !free.fits {
         return false;
     }

@@ -3,6 +3,7 @@ use table_slots::DELETE;
 use table_slots::FREE;
 use table_slots::PUT;
 use table_slots::RANGE;
+use table_slots::clock_of;
 use table_slots::hi_of;
 use table_slots::kind_of;
 use table_slots::lo_of;
@@ -13,12 +14,13 @@ use table_slots::tally_of;
 ghost use mathlib.Core.Path.{_≡_};
 ghost use Prim.Native.Nat.{_+_, _*_, _<_};
 ghost use lib.ListN.{length};
+ghost use Rattle.tables.specs.Slots.{InTable};
 ghost use Rattle.tables.specs.Sound.{is-free, is-point, is-range, is-stamped, owed-before};
 ghost use Rattle.check_forms.specs.Forms.{record-fits, row-fits};
 
 // A free slot is zero but for its next, so that nothing of a wiped record is left.
 pub fn is_free(e: &[u32], s: usize) -> bool
-    requires { ⌜ 4 * s + 3 < length (now e) ⌝ }
+    requires { ⌜ InTable (now e) s ⌝ }
     ensures { λ r. ⌜ r ≡ is-free (now (e .entry)) s ⌝ }
 {
     if kind_of(e, s) != FREE {
@@ -35,7 +37,7 @@ pub fn is_free(e: &[u32], s: usize) -> bool
 
 // A put, or a delete without a tally, of one docket.
 pub fn is_point(e: &[u32], s: usize) -> bool
-    requires { ⌜ 4 * s + 3 < length (now e) ⌝ }
+    requires { ⌜ InTable (now e) s ⌝ }
     ensures { λ r. ⌜ r ≡ is-point (now (e .entry)) s ⌝ }
 {
     if lo_of(e, s) != hi_of(e, s) {
@@ -54,7 +56,7 @@ pub fn is_point(e: &[u32], s: usize) -> bool
 
 // A range delete without a tally.
 pub fn is_range(e: &[u32], s: usize) -> bool
-    requires { ⌜ 4 * s + 3 < length (now e) ⌝ }
+    requires { ⌜ InTable (now e) s ⌝ }
     ensures { λ r. ⌜ r ≡ is-range (now (e .entry)) s ⌝ }
 {
     if hi_of(e, s) < lo_of(e, s) {
@@ -74,19 +76,19 @@ pub enum Class {
 }
 
 fn is_stamped(e: &[u32], s: usize) -> bool
-    requires { ⌜ 4 * s + 3 < length (now e) ⌝ }
+    requires { ⌜ InTable (now e) s ⌝ }
     ensures { λ r. ⌜ r ≡ is-stamped (now (e .entry)) s ⌝ }
 {
     let stamp = stamp_of(e, s);
     if stamp < 1 {
         return false;
     }
-    stamp <= e[1]
+    stamp <= clock_of(e)
 }
 
 // A level that holds a delete owes it from its stamp or earlier.
 fn owed_before(e: &[u32], owed: u32, s: usize) -> bool
-    requires { ⌜ 4 * s + 3 < length (now e) ⌝ }
+    requires { ⌜ InTable (now e) s ⌝ }
     ensures { λ r. ⌜ r ≡ owed-before (now (e .entry)) owed s ⌝ }
 {
     if kind_of(e, s) == PUT {
@@ -100,7 +102,7 @@ fn owed_before(e: &[u32], owed: u32, s: usize) -> bool
 
 // What points and ranges have in common: order, stamp and owed.
 fn record_fits(e: &[u32], owed: u32, least: usize, s: usize) -> bool
-    requires { ⌜ 4 * s + 3 < length (now e) ⌝ }
+    requires { ⌜ InTable (now e) s ⌝ }
     ensures { λ r. ⌜ r ≡ record-fits (now (e .entry)) owed least s ⌝ }
 {
     if order_key(e, s) < least {
@@ -114,7 +116,7 @@ fn record_fits(e: &[u32], owed: u32, least: usize, s: usize) -> bool
 
 // Whether slot s may stand in a chain of this class, after keys below least.
 pub fn row_fits(class: Class, e: &[u32], owed: u32, least: usize, s: usize) -> bool
-    requires { ⌜ 4 * s + 3 < length (now e) ⌝ }
+    requires { ⌜ InTable (now e) s ⌝ }
     ensures { λ r. ⌜ r ≡ row-fits class (now (e .entry)) owed least s ⌝ }
 {
     match class {

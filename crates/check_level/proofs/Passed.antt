@@ -5,7 +5,7 @@ use mathlib.Core.List.{List, _++_}
 use Prim.Native.Nat.{ℕ}
 use lib.ListN.{length, length-append}
 use Rattle.lists.proofs.Bools.{cond-and, and-left, and-right, and-ap}
-use Rattle.tables.specs.Words.{level-row}
+use Rattle.tables.specs.Rows.{level-row}
 use Rattle.tables.specs.Sound.{point-chain, range-chain}
 use Rattle.check_forms.specs.declared.Class.the-variants.{Points, Ranges}
 use Rattle.check_walk.specs.declared.Walked.{Walked}
@@ -20,11 +20,11 @@ level-slots e l i = point-chain e l i ++ range-chain e l i
 
 module _ (e l : List ℕ) (i : ℕ) (m : List ℕ) where
   abbrev points : Marked Walked
-  points = walked Points e (level-row l i .w3) 0 0 m (point-chain e l i)
+  points = walked Points e (level-row l i .owed) 0 0 m (point-chain e l i)
 
   -- The ranges after points that fit.
   abbrev ranges : Marked Walked
-  ranges = walked Ranges e (level-row l i .w3) 0 0 (mark-each m (point-chain e l i)) (range-chain e l i)
+  ranges = walked Ranges e (level-row l i .owed) 0 0 (mark-each m (point-chain e l i)) (range-chain e l i)
 
   -- The ranges and the numbers are asked only where what stands before them fits.
   pub level-asks : leveled e l i m .answer .fits ≡ points .answer .fits && (ranges .answer .fits && numbers-fit e l i (length (level-slots e l i)))
@@ -32,10 +32,10 @@ module _ (e l : List ℕ) (i : ℕ) (m : List ℕ) where
   level-asks =
       cond-and (λ (w : Marked Walked). w .answer .fits) (points .answer .fits) _ _ refl
       ∙ and-ap (points .answer .fits) (λ t.
-      rw (walk-passes Points e (level-row l i .w3) m (point-chain e l i) t)
+      rw (walk-passes Points e (level-row l i .owed) m (point-chain e l i) t)
       (cond-and (λ (w : Marked Walked). w .answer .fits) (ranges .answer .fits) _ _ refl
       ∙ and-ap (ranges .answer .fits) (λ u.
-      rw (walk-passes Ranges e (level-row l i .w3) (mark-each m (point-chain e l i)) (range-chain e l i) u, length-append))))
+      rw (walk-passes Ranges e (level-row l i .owed) (mark-each m (point-chain e l i)) (range-chain e l i) u, length-append))))
 
   pub level-passes : leveled e l i m .answer .fits ≡ true → leveled e l i m ≡ passed m (level-slots e l i)
   unfolding leveled
@@ -44,8 +44,8 @@ module _ (e l : List ℕ) (i : ℕ) (m : List ℕ) where
       let both = sym level-asks ∙ q in
       let rest = and-right (points .answer .fits) (ranges .answer .fits && n) both in
       rw (
-        walk-passes Points e (level-row l i .w3) m (point-chain e l i) (and-left (points .answer .fits) (ranges .answer .fits && n) both),
-        walk-passes Ranges e (level-row l i .w3) (mark-each m (point-chain e l i)) (range-chain e l i) (and-left (ranges .answer .fits) n rest),
+        walk-passes Points e (level-row l i .owed) m (point-chain e l i) (and-left (points .answer .fits) (ranges .answer .fits && n) both),
+        walk-passes Ranges e (level-row l i .owed) (mark-each m (point-chain e l i)) (range-chain e l i) (and-left (ranges .answer .fits) n rest),
         ← length-append (point-chain e l i) (range-chain e l i),
         and-right (ranges .answer .fits) n rest,
         mark-each-append,

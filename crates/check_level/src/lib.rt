@@ -2,50 +2,51 @@
 use check_forms::Class;
 use check_walk::Walked;
 use check_walk::walk;
+use table_levels::level_at;
+use table_slots::clock_of;
 ghost use mathlib.Core.Path.{_≡_};
 ghost use Prim.Native.Nat.{_+_, _*_, _<_};
 ghost use lib.ListN.{length};
-ghost use Rattle.tables.specs.Words.{slots-of};
+ghost use Rattle.tables.specs.Rows.{InRows};
+ghost use Rattle.tables.specs.Slots.{slots-of};
 ghost use Rattle.check_walk.specs.Slots.{Entries};
 ghost use Rattle.check_level.specs.Levels.{numbers-fit, leveled};
 
 // A level's number of records and its owed.
 fn numbers_fit(e: &[u32], l: &[u32], i: usize, count: usize) -> bool
     requires { ⌜ Entries (now e) ⌝ }
-    requires { ⌜ 4 * (i + 1) + 3 < length (now l) ⌝ }
+    requires { ⌜ InRows (now l) i ⌝ }
     ensures { λ r. ⌜ r ≡ numbers-fit (now (e .entry)) (now (l .entry)) i count ⌝ }
 {
-    let row = 4 * (i + 1);
-    if l[row + 2] as usize != count {
+    let level = level_at(l, i);
+    if level.held != count {
         return false;
     }
-    let owed = l[row + 3];
-    if e[1] < owed {
+    if clock_of(e) < level.owed {
         return false;
     }
     if count != 0 {
         return true;
     }
-    owed == 0
+    level.owed == 0
 }
 
 // A level's two chains, then its numbers, which need what the chains hold.
 pub fn level(e: &[u32], l: &[u32], i: usize, marks: &mut [u8]) -> Walked
     requires { ⌜ Entries (now e) ⌝ }
     requires { ⌜ slots-of (now e) < 8 * length (now marks) ⌝ }
-    requires { ⌜ 4 * (i + 1) + 3 < length (now l) ⌝ }
+    requires { ⌜ InRows (now l) i ⌝ }
     ensures { λ r. ⌜ record { answer = r; marks = now (marks .exit) } ≡ leveled (now (e .entry)) (now (l .entry)) i (now (marks .entry)) ⌝ }
 {
-    let row = 4 * (i + 1);
-    let owed = l[row + 3];
-    let points = walk(Class::Points, e, l[row] as usize, owed, marks);
+    let row = level_at(l, i);
+    let points = walk(Class::Points, e, row.points, row.owed, marks);
     if !points.fits {
         return Walked {
             fits: false,
             count: 0,
         };
     }
-    let ranges = walk(Class::Ranges, e, l[row + 1] as usize, owed, marks);
+    let ranges = walk(Class::Ranges, e, row.ranges, row.owed, marks);
     if !ranges.fits {
         return Walked {
             fits: false,

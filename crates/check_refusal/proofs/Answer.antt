@@ -6,7 +6,7 @@ use Prim.Native.Nat.{ℕ, _*_, _<_}
 use native.Mathlib.Omega.{arith}
 use lib.ListN.{replicate, length-replicate}
 use Rattle.check_marks.proofs.Marks.{mark-blank}
-use Rattle.tables.specs.Words.{slots-of}
+use Rattle.tables.specs.Slots.{slots-of}
 use Rattle.tables.specs.Sound.{chains-sound, entries-fit, levels-fit, table-refusal}
 use Rattle.check_walk.specs.Walks.{Marked}
 use Rattle.check_chains.specs.Levels.{chains-checked}

@@ -1,24 +1,10 @@
 // Refusals 1 to 4: the soundness check of the two tables, then whether lo and hi are dockets in their order.
 use check_chains::chains_fit;
-use settings::Checked;
-use settings::Settings;
+use table_levels::levels_fit;
 use table_slots::entries_fit;
 ghost use mathlib.Core.Path.{_≡_};
-ghost use Rattle.tables.specs.Sound.{levels-fit, table-refusal};
+ghost use Rattle.tables.specs.Sound.{table-refusal};
 ghost use Rattle.check_refusal.specs.Dockets.{docket-refusal};
-
-fn level_table_fits(l: &[u32]) -> bool
-    ensures { λ r. ⌜ r ≡ levels-fit (now (l .entry)) ⌝ }
-{
-    // Asked first, so that there is a first row to read.
-    if l.len() < 4 {
-        return false;
-    }
-    let Checked::Accepted(s) = Settings::new(l[0], l[1], l[2], l[3]) else {
-        return false;
-    };
-    l.len() == 4 * (s.deepest as usize + 2)
-}
 
 // The number of the refusal that the tables meet, 1 to 3, or 0 where they are sound.
 pub fn table_refusal(entries: &[u32], levels: &[u32]) -> u32
@@ -27,7 +13,7 @@ pub fn table_refusal(entries: &[u32], levels: &[u32]) -> u32
     if !entries_fit(entries) {
         return refusals::ENTRY_LENGTH;
     }
-    if !level_table_fits(levels) {
+    if !levels_fit(levels) {
         return refusals::LEVEL_TABLE;
     }
     // Made here and lent, so that the loops know only its length.

@@ -10,7 +10,7 @@ use native.Mathlib.Decide.{ℕ-discrete}
 use borrow.Author.Tests.{eq-eqb, ne-eqb}
 use lib.Dec.{eqb}
 use Rattle.lists.specs.All.{All}
-use Rattle.tables.specs.Words.{next-of}
+use Rattle.tables.specs.Slots.{next-of}
 use Rattle.tables.specs.Sound.{chain}
 
 module _ (k : ℕ) (e : List ℕ) (at : ℕ) where

@@ -11,7 +11,7 @@ use lib.ListN.{length}
 use Rattle.lists.specs.All.{All}
 use Rattle.lists.proofs.Bools.{cond-and, and-left, and-right}
 use Rattle.check_marks.specs.Marks.{mark-of, with-mark}
-use Rattle.tables.specs.Words.{slots-of}
+use Rattle.tables.specs.Slots.{slots-of}
 use Rattle.tables.specs.Sound.{chain-from, order-key}
 use Rattle.check_forms.specs.declared.Class.{Class}
 use Rattle.check_forms.specs.Forms.{row-fits}

@@ -10,7 +10,7 @@ use lib.Dec.{leb, eqb}
 use lib.ListN.{length}
 use Rattle.check_marks.specs.Marks.{mark-of, with-mark}
 use Rattle.check_marks.proofs.Marks.{length-with-mark}
-use Rattle.tables.specs.Words.{next-of, slots-of}
+use Rattle.tables.specs.Slots.{slots-of, next-of}
 use Rattle.tables.specs.Sound.{chain, chain-from, order-key}
 use Rattle.check_forms.specs.declared.Class.{Class}
 use Rattle.check_forms.specs.Forms.{row-fits}
@@ -28,12 +28,12 @@ pub record Going (class : Class) (e : List ℕ) (owed : ℕ) (m₀ ss : List ℕ
   pub rest : walked class e owed least count m (chain fuel e at) ≡ walked class e owed 0 0 m₀ ss
 
 -- What an accepted slot says.
-pub record Slot (class : Class) (e : List ℕ) (owed least s : ℕ) (m : List ℕ) : Type 0 where
+pub record FitSlot (class : Class) (e : List ℕ) (owed least s : ℕ) (m : List ℕ) : Type 0 where
   pub inside : s ≤ slots-of e
   pub blank : mark-of m s ≡ 0
   pub row : row-fits class e owed least s ≡ true
 
-pub slot-facts : {class : Class} {e : List ℕ} {owed least s : ℕ} {m : List ℕ} → slot-fits class e owed least s m ≡ true → Slot class e owed least s m
+pub slot-facts : {class : Class} {e : List ℕ} {owed least s : ℕ} {m : List ℕ} → slot-fits class e owed least s m ≡ true → FitSlot class e owed least s m
 unfolding slot-fits
 slot-facts {class} {e} {owed} {least} {s} {m} q =
     let row = row-fits class e owed least s in
@@ -45,7 +45,7 @@ module _ {class : Class} {e : List ℕ} {owed : ℕ} {m₀ : List ℕ} where
   pub walk-starts : (h : ℕ) → Entries e → Going class e owed m₀ (chain-from e h) m₀ h 0 0
   walk-starts h f = record {
     fuel = length e;
-    room = omega (arith, unmarked-le (slots-of e) m₀, f .low);
+    room = omega (arith, unmarked-le (slots-of e) m₀, f .number, f .slots-low);
     len = refl;
     sum = omega arith;
     rest = refl;

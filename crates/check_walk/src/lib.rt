@@ -9,7 +9,7 @@ use table_slots::slot_count;
 ghost use mathlib.Core.Path.{_≡_};
 ghost use Prim.Native.Nat.{_+_, _*_, _<_};
 ghost use lib.ListN.{length};
-ghost use Rattle.tables.specs.Words.{slots-of};
+ghost use Rattle.tables.specs.Slots.{slots-of};
 ghost use Rattle.tables.specs.Sound.{chain-from};
 ghost use Rattle.check_walk.specs.Slots.{Entries, slot-fits};
 ghost use Rattle.check_walk.specs.Walks.{walked};

@@ -14,7 +14,9 @@ use Rattle.model.specs.Calls.{Call, Answer, written, refusing, bad-clock, answe
 use Rattle.model.specs.PlainMap.{get, map-run, map-refusals, no-rows}
 use Rattle.model.specs.Erasure.{retally, Erased}
 use Rattle.model_history.specs.History.{came, earliest, history}
-use Rattle.tables.specs.Words.{Fits32, settings-of, level-row, clock-of}
+use Rattle.tables.specs.Words.{Fits32}
+use Rattle.tables.specs.Slots.{clock-of}
+use Rattle.tables.specs.Rows.{settings-of, level-row}
 use Rattle.tables.specs.Sound.{table-refusal}
 use Rattle.lookup.specs.Lookup.{answered, lookup-tables}
 use Rattle.scan.specs.declared.Row.{Row}
@@ -104,7 +106,7 @@ module _ (n : ℕ) (s : Settings) (low : 1 ≤ n) (high : n ≤ 65535) (ok : all
   answers-as-steps = made.answers-as-steps n s low high ok
 
   -- What a level owes: "the earliest clock of any delete that came into the level, itself or through merges, since the level was last emptied; 0 if none".
-  pub owed-is-earliest : (cs : List (Call ℕ)) (i : ℕ) → i < s .deepest → level-row (tables-after n s cs .levels) i .w3 ≡ earliest (came (history (slotless n s) cs) i)
+  pub owed-is-earliest : (cs : List (Call ℕ)) (i : ℕ) → i < s .deepest → level-row (tables-after n s cs .levels) i .owed ≡ earliest (came (history (slotless n s) cs) i)
   owed-is-earliest = made.owed-is-earliest n s low high ok
 
   -- DEMAND 3: had that put carried any other tally, every word of both tables would be the same. Settings and list alone decide the premises.

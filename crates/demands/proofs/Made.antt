@@ -21,10 +21,11 @@ use Rattle.model.proofs.Demands as model
 use Rattle.model.proofs.Numbers.{run-settings}
 use Rattle.model_history.specs.History.{came, earliest, history}
 use Rattle.model_history.proofs.Owed.{owed-without-slots}
-use Rattle.tables.specs.Words.{Row as Row′, settings-of, level-row, clock-of, slots-of}
+use Rattle.tables.proofs.Rows.{level-row-at}
+use Rattle.tables.specs.Slots.{slots-of, clock-of}
+use Rattle.tables.specs.Rows.{settings-of, level-row, row-words}
 use Rattle.tables.specs.Sound.{table-refusal}
-use Rattle.tables.specs.Placed.{row-words, level-words, read-state}
-use Rattle.tables.proofs.LevelRows.{level-row-at}
+use Rattle.tables.specs.Placed.{level-words, read-state}
 use Rattle.tables.proofs.Back.{written-reads}
 use Rattle.tables.proofs.FormedSound.{words-sound}
 use Rattle.tables.proofs.FormedSteps.{merge-all-formed, run-formed}
@@ -126,12 +127,12 @@ module _ (n : ℕ) (s : Settings) (low : 1 ≤ n) (high : n ≤ 65535) (ok : all
   answers-as-steps cs = answers-of-words cs ∙ model.answers-without-slots s ok (upto n) cs ∙ ap (λ x. answers (slotless x s) cs) (length-upto n)
 
   -- "Owed is the earliest clock of any delete that came into the level, itself or through merges, since the level was last emptied; 0 if none."
-  pub owed-is-earliest : (cs : List (Call ℕ)) (i : ℕ) → i < s .deepest → level-row (tables-after n s cs .levels) i .w3 ≡ earliest (came (history (slotless n s) cs) i)
+  pub owed-is-earliest : (cs : List (Call ℕ)) (i : ℕ) → i < s .deepest → level-row (tables-after n s cs .levels) i .owed ≡ earliest (came (history (slotless n s) cs) i)
   unfolding fresh
   owed-is-earliest cs i below =
       let deep : 0 < s .deepest = omega (arith, allowed-bounds s ok .deepest-low) in
       let stay : run (fresh s (upto n)) cs .settings ≡ s = run-settings (fresh s (upto n)) cs deep in
-      ap (λ (w : Tables). level-row (w .levels) i .w3) (runs cs)
+      ap (λ (w : Tables). level-row (w .levels) i .owed) (runs cs)
       ∙ ap (λ (r : Row′). r .w3) (level-row-at (after cs) i (rw (formed cs .size, stay) (omega arith)))
       ∙ owed-without-slots s (upto n) cs ok i below ∙ ap (λ x. earliest (came (history (slotless x s) cs) i)) (length-upto n)
 

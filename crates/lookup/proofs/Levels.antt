@@ -6,7 +6,7 @@ use Prim.Native.Nat.{ℕ, zero, suc, _+_, _-_}
 use native.Mathlib.Omega.{arith}
 use native.Mathlib.Numerals.{add-one}
 use Rattle.model.specs.Lookup as model
-use Rattle.tables.specs.Words.{settings-of}
+use Rattle.tables.specs.Rows.{settings-of}
 use Rattle.tables.specs.Placed.{read-level, read-levels, read-state}
 use Rattle.lookup_level.specs.declared.Decided.{Decided}
 use Rattle.lookup_level.specs.Answers.{level-decides, settle}

@@ -2,10 +2,12 @@
 use check_refusal::docket_refusal;
 use lookup_level::Decided;
 use lookup_level::look_chains;
+use table_levels::deepest_of;
+use table_levels::level_at;
 ghost use mathlib.Core.Path.{_≡_};
 ghost use Prim.Native.Nat.{_≤_};
 ghost use Rattle.model.specs.Lookup.{lookup};
-ghost use Rattle.tables.specs.Words.{settings-of};
+ghost use Rattle.tables.specs.Rows.{settings-of};
 ghost use Rattle.tables.specs.Placed.{read-level, read-state};
 ghost use Rattle.lookup_level.specs.Answers.{level-decides};
 ghost use Rattle.lookup.specs.Found.{found-of};
@@ -44,8 +46,8 @@ fn look_level(e: &[u32], l: &[u32], level: usize, docket: u32) -> Decided
     requires { ⌜ Readable (now e) (now l) × (level ≤ settings-of (now l) .deepest) ⌝ }
     ensures { λ r. ⌜ r ≡ level-decides (read-level (now (e .entry)) (now (l .entry)) level) docket ⌝ }
 {
-    let row = 4 * (level + 1);
-    look_chains(e, l[row] as usize, l[row + 1] as usize, docket)
+    let row = level_at(l, level);
+    look_chains(e, row.points, row.ranges, docket)
 }
 
 // Reads the levels from 0, and stops at the first that decides.
@@ -53,7 +55,7 @@ fn look_up(e: &[u32], l: &[u32], docket: u32) -> Found
     requires { ⌜ Readable (now e) (now l) ⌝ }
     ensures { λ r. ⌜ found-of r ≡ lookup (read-state (now (e .entry)) (now (l .entry)) .levels) docket ⌝ }
 {
-    let levels = l[0] as usize + 1;
+    let levels = deepest_of(l) + 1;
     let mut left = levels;
     while left != 0 {
         let level = levels - left;

@@ -10,7 +10,7 @@ use Rattle.lists.specs.All.{All}
 use Rattle.model.specs.Records.{Entry, value, tombstone, Point, Level}
 use Rattle.model.specs.Merge.{covered}
 use Rattle.model.specs.Lookup as model
-use Rattle.tables.specs.Words.{lo-of}
+use Rattle.tables.specs.Slots.{lo-of}
 use Rattle.tables.specs.Placed.{read-point}
 use Rattle.lookup_level.specs.declared.Decided.{Decided}
 use Rattle.lookup_level.specs.declared.Decided.the-variants.{Value, Absent, Deeper}

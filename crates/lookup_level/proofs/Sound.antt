@@ -6,7 +6,8 @@ use native.Mathlib.Omega.{arith}
 use lib.ListN.{length}
 use Rattle.settings.proofs.Allowed.{allowed-bounds}
 use Rattle.lists.specs.All.{All}
-use Rattle.tables.specs.Words.{settings-of}
+use Rattle.tables.specs.Slots.{entry-length}
+use Rattle.tables.specs.Rows.{settings-of}
 use Rattle.tables.specs.Sound.{chain-from, table-refusal}
 use Rattle.tables.proofs.Once.{Inside}
 use Rattle.tables.proofs.Linked.{Linked}
@@ -15,7 +16,7 @@ use Rattle.tables.proofs.SoundChains.{points-end, ranges-end}
 use Rattle.chain_cover.specs.Walks.{Walkable}
 use Rattle.lookup_level.specs.Readable.{Readable}
 
-walkable : (n : ℕ) (e : List ℕ) → length e ≡ 4 * (n + 1) → (h : ℕ) (ss : List ℕ) → Linked e h ss → All (Inside n) ss → Walkable e h ss
+walkable : (n : ℕ) (e : List ℕ) → length e ≡ entry-length n → (h : ℕ) (ss : List ℕ) → Linked e h ss → All (Inside n) ss → Walkable e h ss
 walkable n e room h [] c i = c
 walkable n e room h (s ∷ ss) c i = (c .0, c .1, omega (arith, i .0 .1), walkable n e room _ ss (c .2) (i .1))
 

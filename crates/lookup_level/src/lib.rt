@@ -10,6 +10,7 @@ ghost use mathlib.Core.Path.{_≡_};
 ghost use mathlib.Core.List.{map};
 ghost use Prim.Native.Nat.{_+_, _*_, _<_};
 ghost use lib.ListN.{length};
+ghost use Rattle.tables.specs.Slots.{InTable};
 ghost use Rattle.tables.specs.Sound.{chain-from};
 ghost use Rattle.tables.specs.Placed.{read-point};
 ghost use Rattle.chain_cover.specs.Walks.{Ordered};
@@ -39,7 +40,7 @@ pub fn look_chains(e: &[u32], points: usize, ranges: usize, docket: u32) -> Deci
 
 // What the point at a slot decides.
 fn tell(e: &[u32], slot: usize) -> Decided
-    requires { ⌜ 4 * slot + 3 < length (now e) ⌝ }
+    requires { ⌜ InTable (now e) slot ⌝ }
     ensures { λ r. ⌜ r ≡ tells (read-point (now (e .entry)) slot .entry) (read-point (now (e .entry)) slot .stamp) ⌝ }
 {
     if kind_of(e, slot) != PUT {

@@ -11,7 +11,8 @@ use Rattle.settings.specs.declared.Settings.{Settings}
 use Rattle.settings.specs.Limits.{allowed}
 use Rattle.lists.proofs.Bools.{by-cases}
 use Rattle.model.specs.Records.{fresh}
-use Rattle.tables.specs.Words.{slots-of}
+use Rattle.tables.specs.Rows.{level-length}
+use Rattle.tables.specs.Slots.{slots-of}
 use Rattle.tables.specs.Sound.{entries-fit, table-refusal}
 use Rattle.tables.specs.Placed.{read-state, entry-words, level-words}
 use Rattle.make.specs.Make.{Made, made, upto, make-tables}
@@ -23,7 +24,7 @@ use Rattle.make.proofs.Fresh.{made-reads, made-sound, made-entry-words,
 pub record Accepting (e l : List ℕ) (s : Settings) : Type 0 where
   pub fits : EntryLength e
   pub settings : allowed s ≡ true
-  pub room : length l ≡ 4 * (s .deepest + 2)
+  pub room : length l ≡ level-length (s .deepest)
   pub tables : make-tables e l s ≡ made (slots-of e) s
 
 module _ (e l : List ℕ) (s : Settings) (none : make-tables e l s .refusal ≡ 0) where
@@ -36,11 +37,11 @@ module _ (e l : List ℕ) (s : Settings) (none : make-tables e l s .refusal ≡ 
   accepted-allowed : allowed s ≡ true
   accepted-allowed = by-cases (allowed s) (λ a. a) (λ a. refused-not 5 _ (made-not-allowed e l s accepted-fit a) refl)
 
-  accepted-room : length l ≡ 4 * (s .deepest + 2)
+  accepted-room : length l ≡ level-length (s .deepest)
   accepted-room =
-      by-cases (eqb (length l) (4 * (s .deepest + 2)))
-      (λ t. eqb-true (length l) (4 * (s .deepest + 2)) t)
-      (λ f. refused-not 1 _ (made-other-length e l s accepted-fit accepted-allowed (eqb-false (length l) (4 * (s .deepest + 2)) f)) refl)
+      by-cases (eqb (length l) (level-length (s .deepest)))
+      (λ t. eqb-true (length l) (level-length (s .deepest)) t)
+      (λ f. refused-not 1 _ (made-other-length e l s accepted-fit accepted-allowed (eqb-false (length l) (level-length (s .deepest)) f)) refl)
 
   pub accepting : Accepting e l s
   accepting =

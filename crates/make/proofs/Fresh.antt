@@ -13,18 +13,19 @@ use Rattle.settings.specs.Limits.{allowed}
 use Rattle.lists.specs.Lists.{count}
 use Rattle.lists.proofs.Tests.{all-replicate}
 use Rattle.model.specs.Records.{Level, empty, fresh}
+use Rattle.tables.specs.Slots.{free-slot, top-slot}
+use Rattle.tables.specs.Rows.{no-row, level-table}
 use Rattle.tables.specs.Sound.{table-refusal}
-use Rattle.tables.specs.Placed.{free-cell, head, level-chains, all-chains, row-words, row-of-level, entry-words, level-words, read-state}
+use Rattle.tables.specs.Placed.{free-cell, head, level-chains, all-chains, row-of-level, entry-words, level-words, read-state, top-of}
 use Rattle.tables.specs.Formed.{LevelFormed, levels-slots, Formed}
 use Rattle.tables.proofs.Cells.{Chained, AllChained, Holds, times}
 use Rattle.tables.proofs.Once.{facts-once}
-use Rattle.tables.proofs.Lay.{top-row}
 use Rattle.tables.proofs.Back.{formed-words, holds-reads}
 use Rattle.tables.proofs.FormedLevels.{empty-formed}
 use Rattle.tables.proofs.FormedSound.{facts-sound, formed-sound}
 use Rattle.make_fresh.specs.Fresh.{next-free, made-entries, made-levels}
 use Rattle.make.specs.Make.{count-up, upto}
-use Rattle.make_fresh.proofs.Entries.{length-made-entries, made-entries-first, made-entries-row}
+use Rattle.make_fresh.proofs.Entries.{length-made-entries, made-entries-first, made-entries-slot}
 
 -- Each of 1, 2, .., n stands once in that list.
 length-count-up : (k s : ℕ) → length (count-up s k) ≡ k
@@ -75,23 +76,20 @@ free-chained n zero s low end = tt
 free-chained n (suc k) s low end = (
   low,
   omega arith,
-  made-entries-row n s low (omega arith) ∙ ap (λ (w : ℕ). record { w0 = w; w1 = 0; w2 = 0; w3 = 0 }) (omega (arith, head-after n s k (omega arith))),
+  made-entries-slot n s low (omega arith) ∙ ap free-slot (omega (arith, head-after n s k (omega arith))),
   free-chained n k (suc s) (omega arith) (omega arith),
 )
 
 -- The rows of empty levels are zero.
-empty-row-words : (k : ℕ) → row-words (map row-of-level (replicate k empty)) ≡ replicate (4 * k) 0
-unfolding row-words
-empty-row-words zero = refl
-empty-row-words (suc k) =
-    let q : 4 * suc k ≡ suc (suc (suc (suc (4 * k)))) = omega arith in
-    rw (q, empty-row-words k)
+empty-rows : (k : ℕ) → map row-of-level (replicate k empty) ≡ replicate k no-row
+empty-rows zero = refl
+empty-rows (suc k) = ap (λ rs. no-row ∷ rs) (empty-rows k)
 
 pub made-level-words : (n : ℕ) (s : Settings) → made-levels s ≡ level-words (fresh s (upto n))
-unfolding made-levels level-words fresh row-words
+unfolding made-levels level-words fresh
 made-level-words n s =
     let q : s .deepest + 1 ≡ suc (s .deepest) = omega arith in
-    rw q (ap (λ (ws : List ℕ). s .deepest ∷ s .ratio ∷ s .buffer ∷ s .term ∷ ws) (sym (empty-row-words (suc (s .deepest)))))
+    rw q (ap (level-table s) (sym (empty-rows (suc (s .deepest)))))
 
 module _ (n : ℕ) (s : Settings) (low : 1 ≤ n) (high : n ≤ 65535) (a : allowed s ≡ true) where
   pub fresh-formed : Formed n (fresh s (upto n))
@@ -108,13 +106,13 @@ module _ (n : ℕ) (s : Settings) (low : 1 ≤ n) (high : n ≤ 65535) (a : allo
         (facts-once n (upto n) (record { number = length-count-up n 1; each = λ t b c. times-within t n 1 b (omega arith) }));
   }
 
-  made-holds : Holds n (top-row (fresh s (upto n))) (all-chains (fresh s (upto n))) (made-entries n)
+  made-holds : Holds n (top-of (fresh s (upto n))) (all-chains (fresh s (upto n))) (made-entries n)
   unfolding fresh
   made-holds = record {
     room = length-made-entries n;
     first =
         made-entries-first n
-        ∙ ap (λ (w : ℕ). record { w0 = w; w1 = 0; w2 = 0; w3 = 0 }) (sym (head-after n 0 n (omega arith) ∙ rw (ne-eqb 0 n (omega arith))));
+        ∙ ap (λ (w : ℕ). top-slot w 0) (sym (head-after n 0 n (omega arith) ∙ rw (ne-eqb 0 n (omega arith))));
     each = (free-chained n n 1 (omega arith) (omega arith), no-chains n (suc (s .deepest)) (made-entries n));
   }
 

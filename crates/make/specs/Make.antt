@@ -7,7 +7,8 @@ use lib.Dec.{eqb}
 use lib.ListN.{length}
 use Rattle.settings.specs.declared.Settings.{Settings}
 use Rattle.settings.specs.Limits.{allowed}
-use Rattle.tables.specs.Words.{slots-of}
+use Rattle.tables.specs.Rows.{level-length}
+use Rattle.tables.specs.Slots.{slots-of}
 use Rattle.tables.specs.Sound.{entries-fit}
 use Rattle.make_fresh.specs.Fresh.{made-entries, made-levels}
 
@@ -37,6 +38,6 @@ unfoldable pub make-tables : List ℕ → List ℕ → Settings → Made
 make-tables e l s =
     cond (entries-fit e)
     (cond (allowed s)
-    (cond (eqb (length l) (4 * (s .deepest + 2))) (made (slots-of e) s) (not-made 2 e l))
+    (cond (eqb (length l) (level-length (s .deepest))) (made (slots-of e) s) (not-made 2 e l))
     (not-made 6 e l))
     (not-made 1 e l)

@@ -3,7 +3,9 @@ use make_fresh::free_slots;
 use make_fresh::lay_levels;
 use settings::Checked;
 use settings::Settings;
+use table_levels::level_length;
 use table_slots::entries_fit;
+use table_slots::slot_count;
 ghost use mathlib.Core.Path.{_≡_};
 ghost use Rattle.make.specs.Make.{make-tables};
 
@@ -25,10 +27,10 @@ pub fn make(
     let Checked::Accepted(settings) = checked else {
         return refusals::SETTINGS;
     };
-    if levels.len() != 4 * (deepest as usize + 2) {
+    if levels.len() != level_length(deepest as usize) {
         return refusals::LEVEL_TABLE;
     }
-    let slots = entries.len() / 4 - 1;
+    let slots = slot_count(entries);
     free_slots(entries, slots);
     lay_levels(levels, settings);
     0

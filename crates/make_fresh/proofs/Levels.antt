@@ -1,66 +1,43 @@
--- The level table of a made store: its length and its rows.
-use mathlib.Core.Path.{_≡_, refl, sym, ap, _∙_}
+-- The level table of a made store: its length, its settings and its rows.
+use mathlib.Core.Path.{_≡_, refl, sym, _∙_}
 use mathlib.Core.List.{List}
-use Prim.Native.Nat.{ℕ, zero, suc, _+_, _-_, _*_, _≤_}
+use Prim.Native.Nat.{ℕ, zero, suc, _+_, _<_}
 use native.Mathlib.Omega.{arith}
 use lib.ListN.{length, getD, replicate, length-replicate}
 use Rattle.settings.specs.declared.Settings.{Settings}
-use Rattle.tables.specs.Words.{Row, row-of, set-row, settings-of, level-row}
+use Rattle.tables.specs.Rows.{level-length, InRows, settings-of, Row, level-row, set-row, no-row}
+use Rattle.tables.proofs.Rows.{length-set-row, row-other, row-same, rows-equal, length-level-table, settings-level-table, level-table-at}
 use Rattle.make_fresh.specs.Fresh.{made-levels}
-use Rattle.tables.proofs.Rows.{length-set-row, row-same, row-rest}
-use Rattle.make_fresh.proofs.Rows.{Agree, agree-none, agree-next}
+use Rattle.make_fresh.proofs.Parts.{Parts, Agree}
 
--- A row of zeros.
-abbrev pub no-words : Row
-no-words = record { w0 = 0; w1 = 0; w2 = 0; w3 = 0 }
+abbrev pub row-parts : Parts Row
+row-parts = record { at = level-row; put = set-row; has = InRows; put-length = length-set-row; put-same = row-same; put-other = row-other }
 
-getD-zeros : (n i : ℕ) → _≡_ {A = ℕ} (getD (replicate n 0) i 0) 0
-getD-zeros zero i = refl
-getD-zeros (suc n) zero = refl
-getD-zeros (suc n) (suc i) = getD-zeros n i
-
-pub zeros-row : (n i : ℕ) → row-of (replicate n 0) i ≡ no-words
-zeros-row n i = simp getD-zeros
-
--- The words of the first row.
-abbrev pub first-row : Settings → Row
-first-row s = record { w0 = s .deepest; w1 = s .ratio; w2 = s .buffer; w3 = s .term }
+getD-replicate : (n i : ℕ) (r : Row) → getD (replicate n r) i r ≡ r
+getD-replicate zero i r = refl
+getD-replicate (suc n) zero r = refl
+getD-replicate (suc n) (suc i) r = getD-replicate n i r
 
 module _ (s : Settings) where
-  pub length-made-levels : length (made-levels s) ≡ 4 * (s .deepest + 2)
+  zeros : length (replicate (s .deepest + 1) no-row) ≡ s .deepest + 1
+  zeros = length-replicate (s .deepest + 1) no-row
+
+  pub length-made-levels : length (made-levels s) ≡ level-length (s .deepest)
   unfolding made-levels
-  length-made-levels = omega (arith, length-replicate {A = ℕ} (4 * (s .deepest + 1)) 0)
+  length-made-levels = length-level-table s (replicate (s .deepest + 1) no-row) ∙ omega (arith, zeros)
 
   -- "The first row holds L, T, B, D."
-  pub made-levels-first : row-of (made-levels s) 0 ≡ first-row s
+  made-levels-settings : settings-of (made-levels s) ≡ s
   unfolding made-levels
-  made-levels-first = refl
+  made-levels-settings = settings-level-table s (replicate (s .deepest + 1) no-row)
 
   -- Every other row is zero.
-  pub made-levels-row : (i : ℕ) → level-row (made-levels s) i ≡ no-words
+  pub made-levels-row : (i : ℕ) → i < s .deepest + 1 → level-row (made-levels s) i ≡ no-row
   unfolding made-levels
-  made-levels-row i =
-      row-rest (s .deepest) (s .ratio) (s .buffer) (s .term) (replicate (4 * (s .deepest + 1)) 0) i
-      ∙ zeros-row (4 * (s .deepest + 1)) i
+  made-levels-row i h =
+      level-table-at s (replicate (s .deepest + 1) no-row) i no-row (omega (arith, zeros)) ∙ getD-replicate (s .deepest + 1) i no-row
 
-  pub made-levels-later : (r : ℕ) → 1 ≤ r → row-of (made-levels s) r ≡ no-words
-  made-levels-later r h =
-      let q : r ≡ r - 1 + 1 = omega arith in
-      ap (row-of (made-levels s)) q ∙ made-levels-row (r - 1)
-
--- A level table of the right length, once its first row is set.
-module _ (s : Settings) (l l₀ : List ℕ) (room : length l ≡ 4 * (s .deepest + 2)) (set : l₀ ≡ set-row l 0 (first-row s)) where
-  pub first-length : length l₀ ≡ 4 * (s .deepest + 2)
-  first-length = rw set (length-set-row l 0 (first-row s) ∙ room)
-
-  first-row-is : row-of l₀ 0 ≡ first-row s
-  first-row-is = rw set (row-same l 0 (first-row s) (omega arith))
-
-  pub first-settings : settings-of l₀ ≡ s
-  first-settings = ap (λ (r : Row). record { deepest = r .w0; ratio = r .w1; buffer = r .w2; term = r .w3 }) first-row-is
-
-  pub first-agrees : Agree (made-levels (settings-of l₀)) 1 l₀
-  first-agrees =
-      rw (first-settings, set)
-      (agree-next (made-levels s) l 0 (first-row s) (agree-none (made-levels s) l (room ∙ sym (length-made-levels s)))
-      (omega (arith, length-made-levels s)) (made-levels-first s))
+  pub levels-made : (l : List ℕ) → settings-of l ≡ s → Agree row-parts (made-levels s) (s .deepest + 1) l → l ≡ made-levels s
+  levels-made l is a =
+      rows-equal (s .deepest + 1) l (made-levels s) (a .size ∙ length-made-levels ∙ omega arith) (length-made-levels ∙ omega arith)
+      (is ∙ sym made-levels-settings) (a .parts)

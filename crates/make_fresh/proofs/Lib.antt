@@ -1,4 +1,4 @@
 -- The laws of a fresh store's words.
-pub mod Rows
+pub mod Parts
 pub mod Entries
 pub mod Levels

@@ -6,7 +6,7 @@ use native.Mathlib.Omega.{arith}
 use lib.ListN.{length, length-map}
 use Rattle.lists.specs.Lists.{select, reject}
 use Rattle.model.specs.Records.{held}
-use Rattle.model.specs.Merge.{point-goes, range-goes, gone, earlier, later, release, merged, point-slots, range-slots}
+use Rattle.model.specs.Merge.{point-goes, range-goes, earlier, later, release, merged, point-slots, range-slots}
 use Rattle.tables.specs.Placed.{Cell, point-cell, range-cell, head}
 use Rattle.tables.proofs.Back.{point-cell-slots, range-cell-slots}
 use Rattle.chain_cells.specs.Splicing.{Chains, TwoHeld, Spliced}

@@ -12,7 +12,7 @@ use Rattle.model.specs.Records.{State, empty, level, held}
 use Rattle.model.specs.Merge.{joined}
 use Rattle.model.specs.Steps.{begin, merge-state, merge-level}
 use Rattle.model.specs.Calls.{timed}
-use Rattle.tables.specs.Words.{Row, set-row}
+use Rattle.tables.specs.Rows.{InRows, settings-of, Row, set-row, no-row}
 use Rattle.tables.specs.Placed.{Cell, free-cell, point-cell, range-cell, level-chains, all-chains, level-words}
 use Rattle.tables.specs.Formed.{Formed}
 use Rattle.tables.proofs.Cells.{AllChained}
@@ -21,11 +21,11 @@ use Rattle.tables.proofs.FormedSteps.{merge-at, formed-at, at-formed}
 use Rattle.table_levels.specs.declared.Level.{Level}
 use Rattle.merge_join.specs.Joining.{level-of, Levels, LevelsHeld, Joined}
 use Rattle.merge_levels.specs.Laid.{Store, Laid, at-state, Worked}
-use Rattle.table_levels.specs.Rows.{level-at}
+use Rattle.table_levels.specs.Levels.{level-from, level-at, row-at}
 use Rattle.chain_cells.proofs.Bounds.{first-head-fits, second-head-fits, two-few}
 use Rattle.chain_cells.proofs.Frames.{SameSlots, still-once}
 use Rattle.merge_levels.proofs.LevelChains.{without-pair, points-out, ranges-out, pair-out, level-in, weigh-pair-out}
-use Rattle.merge_levels.proofs.LevelTable.{no-row, merged-level, merged-words}
+use Rattle.merge_levels.proofs.LevelTable.{merged-level, merged-words}
 use Rattle.merge_levels.proofs.Store.{laid-length, laid-deepest, laid-allowed, laid-row, laid-formed, held-read}
 
 -- Levels i and i+1 of a store, and the chains of the others.
@@ -51,11 +51,7 @@ same-pair-slots g i f = omega (arith, weigh-pair-out f (g .state .levels) i)
 
 -- The row of a level, as the code reads it.
 pub read-level : (g : Store) (e l : List ℕ) → Laid g e l → (i : ℕ) → i ≤ g .state .settings .deepest → level-at l i ≡ level-of (level i (g .state))
-read-level g e l laid i h = ap (λ (r : Row). record { points = r .w0; ranges = r .w1; held = r .w2; owed = r .w3 }) (laid-row g e l laid i h)
-
--- And as it writes it, of the level that is left.
-abbrev pub row-of-read : Level → Row
-row-of-read r = record { w0 = r .points; w1 = r .ranges; w2 = r .held; w3 = r .owed }
+read-level g e l laid i h = ap level-from (laid-row g e l laid i h)
 
 -- What that row says fits a word.
 module _ (deepest : Bool) (g : Levels) (e : List ℕ) (r : Level) (j : Joined deepest g e r) where
@@ -73,7 +69,7 @@ module _ (deepest : Bool) (g : Levels) (e : List ℕ) (r : Level) (j : Joined de
 
 module _ (g : Store) (e l : List ℕ) (laid : Laid g e l) (i : ℕ) (deep : i < g .state .settings .deepest) where
   -- The rows of both levels are in the table, whose levels are few.
-  pub rows-in : 4 * (i + 2) + 3 < length l
+  pub rows-in : InRows l (i + 1)
   rows-in = omega (arith, laid-length g e l laid)
 
   pub shallow : i < 6
@@ -113,8 +109,8 @@ module _ (g : Store) (e l : List ℕ) (laid : Laid g e l) (i : ℕ) (deep : i < 
       }
 
   -- Whether the next level is the deepest, as the code asks it.
-  pub next-deepest : eqb (i + 1) (getD l 0 0) ≡ eqb (suc i) (g .state .settings .deepest)
-  next-deepest = ap (eqb (i + 1)) (laid-deepest g e l laid) ∙ ap (λ k. eqb k (g .state .settings .deepest)) (omega arith)
+  pub next-deepest : (d : ℕ) → d ≡ settings-of l .deepest → eqb (i + 1) d ≡ eqb (suc i) (g .state .settings .deepest)
+  next-deepest d is = ap (eqb (i + 1)) (is ∙ laid-deepest g e l laid) ∙ ap (λ k. eqb k (g .state .settings .deepest)) (omega arith)
 
   merged-formed : Formed (g .slots) (timed (g .time) (merge-state i (g .state)))
   unfolding merge-state
@@ -125,7 +121,7 @@ module _ (g : Store) (e l : List ℕ) (laid : Laid g e l) (i : ℕ) (deep : i < 
 
   -- The tables after a merge of level i hold the words of the merged state.
   merged-laid : (e′ : List ℕ) (r : Level) → Joined (eqb (suc i) (g .state .settings .deepest)) (pair g i) e′ r
-      → Laid (at-state g (merge-state i (g .state))) e′ (set-row (set-row l (i + 1) no-row) (i + 1 + 1) (row-of-read r))
+      → Laid (at-state g (merge-state i (g .state))) e′ (set-row (set-row l i no-row) (i + 1) (row-at r))
   unfolding merge-state
   merged-laid e′ r j =
       let p : State ℕ ℕ = g .state in
@@ -138,20 +134,20 @@ module _ (g : Store) (e l : List ℕ) (laid : Laid g e l) (i : ℕ) (deep : i < 
           each = (cs .0, level-in (g .slots) e′ (merged-level i p) (set (p .levels) i empty) (suc i) (cs .1 .0) (cs .1 .1 .0) (cs .1 .1 .1));
         };
         levels =
-            ap (λ ws. set-row (set-row ws (i + 1) no-row) (i + 1 + 1) (row-of-read r)) (laid .levels)
-            ∙ ap (λ (x : Level). set-row (set-row (level-words p) (i + 1) no-row) (i + 1 + 1) (row-of-read x)) (j .level-is)
+            ap (λ ws. set-row (set-row ws i no-row) (i + 1) (row-at r)) (laid .levels)
+            ∙ ap (λ (x : Level). set-row (set-row (level-words p) i no-row) (i + 1) (row-at x)) (j .level-is)
             ∙ sym (merged-words i p (omega (arith, laid .formed .size)));
       }
 
   -- So does the code's work, when it tells the merges that the model counts.
   pub merged-worked : (e′ l′ : List ℕ) (r : Level) (merges : ℕ) → Joined (eqb (suc i) (g .state .settings .deepest)) (pair g i) e′ r
-      → l′ ≡ set-row (set-row l (i + 1) no-row) (i + 1 + 1) (row-of-read r) → merges ≡ merge-level i (begin (g .state)) .merges
+      → l′ ≡ set-row (set-row l i no-row) (i + 1) (row-at r) → merges ≡ merge-level i (begin (g .state)) .merges
       → Worked g (merge-level i (begin (g .state))) e′ l′ merges
   unfolding merge-level
   merged-worked e′ l′ r merges j w m = record { laid = rw w (merged-laid e′ r j); counts = m }
 
   upper-held : (upper : Level) → upper ≡ level-at l i → upper .held ≡ held (level i (g .state))
-  upper-held upper u = held-read upper l i u ∙ ap (λ (r : Row). r .w2) (laid-row g e l laid i (omega arith))
+  upper-held upper u = held-read upper l i u ∙ ap (λ (r : Row). r .held) (laid-row g e l laid i (omega arith))
 
   -- A merge counts where its upper level had a record.
   pub counts-none : (upper : Level) → upper ≡ level-at l i → upper .held ≡ 0 → 0 ≡ merge-level i (begin (g .state)) .merges

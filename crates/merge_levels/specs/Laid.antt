@@ -5,10 +5,9 @@ use Prim.Native.Nat.{ℕ}
 use Rattle.model.specs.Records.{State}
 use Rattle.model.specs.Steps.{Work}
 use Rattle.model.specs.Calls.{timed}
-use Rattle.tables.specs.Placed.{all-chains, level-words}
+use Rattle.tables.specs.Placed.{all-chains, level-words, top-of}
 use Rattle.tables.specs.Formed.{Formed}
 use Rattle.tables.proofs.Cells.{Holds}
-use Rattle.tables.proofs.Lay.{top-row}
 
 -- A state in a table of so many slots, in the middle of a call at a time that no stamp is after.
 pub record Store : Type 0 where
@@ -18,7 +17,7 @@ pub record Store : Type 0 where
 
 pub record Laid (g : Store) (e l : List ℕ) : Type 0 where
   pub formed : Formed (g .slots) (timed (g .time) (g .state))
-  pub entries : Holds (g .slots) (top-row (g .state)) (all-chains (g .state)) e
+  pub entries : Holds (g .slots) (top-of (g .state)) (all-chains (g .state)) e
   pub levels : l ≡ level-words (g .state)
 
 -- The same store in another state.

@@ -1,8 +1,9 @@
 // Levels merged downwards in the two tables: one, or all of them in order.
 use merge_join::join;
+use table_levels::clear_level;
+use table_levels::deepest_of;
 use table_levels::level_at;
 use table_levels::set_level;
-use table_slots::set_row;
 ghost use Prim.Native.Nat.{_<_};
 ghost use Rattle.lists.specs.All.{Exists};
 ghost use Rattle.model.specs.Steps.{begin, merge-level, merge-all};
@@ -16,9 +17,9 @@ pub fn merge_level(e: &mut [u32], l: &mut [u32], i: usize) -> u32
 {
     let upper = level_at(l, i);
     let lower = level_at(l, i + 1);
-    let deepest = i + 1 == l[0] as usize;
+    let deepest = i + 1 == deepest_of(l);
     let joined = join(e, upper, lower, deepest);
-    set_row(l, i + 1, 0, 0, 0, 0);
+    clear_level(l, i);
     set_level(l, i + 1, joined);
     if upper.held == 0 {
         return 0;
@@ -31,7 +32,7 @@ pub fn merge_all(e: &mut [u32], l: &mut [u32]) -> u32
     requires { ⌜ Exists (λ g. Laid g (now e) (now l)) ⌝ }
     ensures { λ r. ⌜ ((g : Store) → Laid g (now (e .entry)) (now (l .entry)) → Worked g (merge-all (g .state)) (now (e .exit)) (now (l .exit)) r) ⌝ }
 {
-    let deepest = l[0] as usize;
+    let deepest = deepest_of(l);
     let mut merges = 0;
     let mut i = 0;
     while i < deepest {

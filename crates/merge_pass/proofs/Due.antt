@@ -13,21 +13,21 @@ use Rattle.settings.specs.Checked.{inner}
 use Rattle.settings.proofs.Allowed.{inner-true}
 use Rattle.model.specs.Records.{Level, level}
 use Rattle.model.specs.Steps.{buffer-due, due}
-use Rattle.tables.specs.Words.{Row, settings-of, level-row}
+use Rattle.tables.specs.Rows.{settings-of, Row, level-row}
 use Rattle.tables.specs.Placed.{row-of-level}
 use Rattle.merge_levels.specs.Laid.{Store, Laid}
 use Rattle.merge_pass.specs.Due.{due-row}
 use Rattle.merge_levels.proofs.Store.{laid-settings, laid-allowed, laid-row, laid-formed}
 
 module _ (settings : Settings) (t i : ℕ) (r : Row) where
-  pub due-over : capacity settings i < r .w2 → true ≡ due-row settings t i r
-  due-over h = rw (lt-ltb (capacity settings i) (r .w2) h)
+  pub due-over : capacity settings i < r .held → true ≡ due-row settings t i r
+  due-over h = rw (lt-ltb (capacity settings i) (r .held) h)
 
-  pub due-owing-none : r .w2 ≤ capacity settings i → r .w3 ≡ 0 → false ≡ due-row settings t i r
-  due-owing-none h z = rw (le-ltb (capacity settings i) (r .w2) h, eq-eqb (r .w3) 0 z)
+  pub due-owing-none : r .held ≤ capacity settings i → r .owed ≡ 0 → false ≡ due-row settings t i r
+  due-owing-none h z = rw (le-ltb (capacity settings i) (r .held) h, eq-eqb (r .owed) 0 z)
 
-  pub due-owing : r .w2 ≤ capacity settings i → (r .w3 ≡ 0 → ⊥) → leb (limit settings i) (t - r .w3) ≡ due-row settings t i r
-  due-owing h z = rw (le-ltb (capacity settings i) (r .w2) h, ne-eqb (r .w3) 0 z)
+  pub due-owing : r .held ≤ capacity settings i → (r .owed ≡ 0 → ⊥) → leb (limit settings i) (t - r .owed) ≡ due-row settings t i r
+  due-owing h z = rw (le-ltb (capacity settings i) (r .held) h, ne-eqb (r .owed) 0 z)
 
 -- A level's row tells whether the level is due.
 row-due : (settings : Settings) (t i : ℕ) (v : Level ℕ ℕ) → due-row settings t i (row-of-level v) ≡ due settings t i v
@@ -42,11 +42,11 @@ laid-due g e l laid t i h =
 
 module _ (g : Store) (e l : List ℕ) (laid : Laid g e l) where
   -- "if the buffer has B records or more"
-  pub laid-buffer-due : buffer-due (g .state) ≡ leb (getD l 2 0) (level-row l 0 .w2)
+  pub laid-buffer-due : buffer-due (g .state) ≡ leb (settings-of l .buffer) (level-row l 0 .held)
   unfolding buffer-due
   laid-buffer-due =
-      sym (ap (λ (s : Settings). leb (s .buffer) (level-row l 0 .w2)) (laid-settings g e l laid)
-      ∙ ap (λ (r : Row). leb (g .state .settings .buffer) (r .w2)) (laid-row g e l laid 0 (omega arith)))
+      sym (ap (λ (s : Settings). leb (s .buffer) (level-row l 0 .held)) (laid-settings g e l laid)
+      ∙ ap (λ (r : Row). leb (g .state .settings .buffer) (r .held)) (laid-row g e l laid 0 (omega arith)))
 
   -- What the test asks of a level: that it has a capacity and a limit, and owes from no later than the clock.
   pub laid-inner : (i : ℕ) → 1 ≤ i → i < g .state .settings .deepest → inner (settings-of l) i ≡ true
@@ -54,5 +54,5 @@ module _ (g : Store) (e l : List ℕ) (laid : Laid g e l) where
       ap (λ (s : Settings). inner s i) (laid-settings g e l laid)
       ∙ inner-true (g .state .settings) i (record { settings = laid-allowed g e l laid; level-low = low; level-high = high })
 
-  pub laid-owed : (i : ℕ) → i ≤ g .state .settings .deepest → level-row l i .w3 ≤ g .time
-  laid-owed i h = omega (arith, ap (λ (r : Row). r .w3) (laid-row g e l laid i h), laid-formed g e l laid i .owed-clock)
+  pub laid-owed : (i : ℕ) → i ≤ g .state .settings .deepest → level-row l i .owed ≤ g .time
+  laid-owed i h = omega (arith, ap (λ (r : Row). r .owed) (laid-row g e l laid i h), laid-formed g e l laid i .owed-clock)

@@ -1,13 +1,14 @@
 // The pass: the buffer merged where it is full, then each level from 1 to L−1 that is over its capacity or its limit.
 use merge_levels::merge_level;
-use settings::Settings;
+use table_levels::deepest_of;
 use table_levels::level_at;
+use table_levels::settings_of;
 ghost use mathlib.Core.Path.{_≡_};
 ghost use mathlib.Core.Bool.{true};
 ghost use Prim.Native.Nat.{_+_, _*_, _<_, _≤_};
 ghost use lib.ListN.{length};
 ghost use Rattle.settings.specs.Checked.{inner};
-ghost use Rattle.tables.specs.Words.{settings-of, level-row};
+ghost use Rattle.tables.specs.Rows.{InRows, settings-of, level-row};
 ghost use Rattle.merge_pass.specs.Due.{due-row};
 ghost use Rattle.lists.specs.All.{Exists};
 ghost use Rattle.model.specs.Steps.{begin, pass-buffer, pass-level, pass};
@@ -15,9 +16,9 @@ ghost use Rattle.merge_levels.specs.Laid.{Store, Laid, Worked};
 
 // Whether level i has more than its capacity, or has owed for its limit.
 pub fn is_due(l: &[u32], clock: u32, i: usize) -> bool
-    requires { ⌜ 4 * (i + 1) + 3 < length (now l) ⌝ }
+    requires { ⌜ InRows (now l) i ⌝ }
     requires { ⌜ inner (settings-of (now l)) i ≡ true ⌝ }
-    requires { ⌜ level-row (now l) i .w3 ≤ clock ⌝ }
+    requires { ⌜ level-row (now l) i .owed ≤ clock ⌝ }
     ensures { λ r. ⌜ r ≡ due-row (settings-of (now (l .entry))) clock i (level-row (now (l .entry)) i) ⌝ }
 {
     let settings = settings_of(l);
@@ -31,24 +32,12 @@ pub fn is_due(l: &[u32], clock: u32, i: usize) -> bool
     settings.inner_limit(i as u32) <= (clock - level.owed) as u64
 }
 
-fn settings_of(l: &[u32]) -> Settings
-    requires { ⌜ 4 ≤ length (now l) ⌝ }
-    ensures { λ r. ⌜ r ≡ settings-of (now (l .entry)) ⌝ }
-{
-    Settings {
-        deepest: l[0],
-        ratio: l[1],
-        buffer: l[2],
-        term: l[3],
-    }
-}
-
 // The whole pass; how many merges it counts.
 pub fn pass(e: &mut [u32], l: &mut [u32], clock: u32) -> u32
     requires { ⌜ Exists (λ g. Laid g (now e) (now l) × (g .time ≡ clock)) ⌝ }
     ensures { λ r. ⌜ ((g : Store) → Laid g (now (e .entry)) (now (l .entry)) → g .time ≡ clock → Worked g (pass clock (begin (g .state))) (now (e .exit)) (now (l .exit)) r) ⌝ }
 {
-    let deepest = l[0] as usize;
+    let deepest = deepest_of(l);
     let mut merges = pass_buffer(e, l);
     let mut i = 1;
     while i < deepest {
@@ -64,7 +53,7 @@ fn pass_buffer(e: &mut [u32], l: &mut [u32]) -> u32
     ensures { λ r. ⌜ ((g : Store) → Laid g (now (e .entry)) (now (l .entry)) → Worked g (pass-buffer (begin (g .state))) (now (e .exit)) (now (l .exit)) r) ⌝ }
 {
     let buffer = level_at(l, 0);
-    if buffer.held < l[2] as usize {
+    if buffer.held < settings_of(l).buffer as usize {
         return 0;
     }
     merge_level(e, l, 0)

@@ -11,6 +11,7 @@ use Rattle.lists.specs.All.{All, Ascending}
 use Rattle.lists.proofs.Bools.{and-intro}
 use Rattle.lists.proofs.Tests.{any-map, all-every}
 use Rattle.model.specs.Merge.{covers}
+use Rattle.tables.specs.Slots.{entry-length}
 use Rattle.tables.specs.Sound.{chain-from, ascend, order-key}
 use Rattle.tables.specs.Placed.{Cell, head, read-range}
 use Rattle.tables.proofs.Cells.{Chained, cell-slots}
@@ -39,7 +40,7 @@ words-ascend e least (s ∷ ss) l a =
     and-intro (leb least (order-key e s)) (ascend e (order-key e s + 1) ss) (le-leb least (order-key e s) (l .0))
     (words-ascend e (order-key e s + 1) ss (above e (order-key e s) ss (a .0)) (a .1))
 
-cells-walk : (n : ℕ) (e : List ℕ) → n ≤ 65535 → length e ≡ 4 * (n + 1) → (cs : List Cell) → Chained n e cs → Walkable e (head cs) (cell-slots cs)
+cells-walk : (n : ℕ) (e : List ℕ) → n ≤ 65535 → length e ≡ entry-length n → (cs : List Cell) → Chained n e cs → Walkable e (head cs) (cell-slots cs)
 cells-walk n e small room [] h = refl
 cells-walk n e small room (c ∷ cs) h =
     (refl, omega (arith, h .0), omega (arith, h .1), rw (next-at n e (omega arith) c cs h) (cells-walk n e small room cs (h .3)))

@@ -5,7 +5,7 @@ use Prim.Native.Nat.{ℕ, _≤_}
 use lib.Dec.{ltb}
 use Rattle.lists.specs.All.{All}
 use Rattle.lists.proofs.Tests.{all-both, all-every, append-map}
-use Rattle.tables.specs.Words.{hi-of}
+use Rattle.tables.specs.Slots.{hi-of}
 use Rattle.tables.specs.Sound.{chain-from}
 use Rattle.tables.specs.Placed.{Cell, head}
 use Rattle.chain_cells.specs.Cells.{cell-at, cell-lo, any-over}

@@ -7,10 +7,9 @@ use Prim.Native.Nat.{ℕ, _<_, _≤_}
 use native.Mathlib.Omega.{arith}
 use borrow.Author.Tests.{ltb-true}
 use Rattle.lists.specs.All.{All}
-use Rattle.tables.specs.Words.{lo-of}
+use Rattle.tables.specs.Slots.{InTable, lo-of}
 use Rattle.tables.specs.Sound.{chain-from}
 use Rattle.tables.specs.Placed.{Cell, head}
-use Rattle.tables.proofs.Rows.{InTable}
 use Rattle.chain_cells.specs.Cells.{cell-at, cell-lo, cell-hi, cell-key, cell-before, any-over}
 use Rattle.chain_cells.specs.Held.{Held}
 use Rattle.chain_cells.specs.Order.{CellsOrdered}

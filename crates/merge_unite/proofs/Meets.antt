@@ -7,7 +7,7 @@ use Prim.Native.Nat.{ℕ, max}
 use native.Mathlib.Omega.{arith}
 use lib.ListN.{length}
 use Rattle.lists.proofs.Tests.{all-weaken}
-use Rattle.tables.specs.Words.{stamp-of}
+use Rattle.tables.specs.Slots.{stamp-of}
 use Rattle.tables.specs.Placed.{Cell, head}
 use Rattle.chain_cells.specs.Cells.{cell-at, cell-key, cell-before}
 use Rattle.chain_cells.specs.Held.{Held}

@@ -8,10 +8,9 @@ use native.Mathlib.Omega.{arith}
 use lib.ListN.{length}
 use Rattle.lists.specs.All.{All}
 use Rattle.lists.proofs.Tests.{all-weaken}
-use Rattle.tables.specs.Words.{next-of}
+use Rattle.tables.specs.Slots.{InTable, next-of}
 use Rattle.tables.specs.Sound.{chain, chain-from}
 use Rattle.tables.specs.Placed.{Cell, head}
-use Rattle.tables.proofs.Rows.{InTable}
 use Rattle.chain_cells.specs.Cells.{cell-at, cell-key, cell-before}
 use Rattle.chain_cells.specs.Held.{Held}
 use Rattle.chain_cells.specs.Order.{CellsOrdered}

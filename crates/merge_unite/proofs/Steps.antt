@@ -9,7 +9,7 @@ use lib.ListN.{length, drop}
 use borrow.Author.Tests.{ltb-true, lt-ltb}
 use Rattle.lists.specs.All.{All}
 use Rattle.lists.proofs.Tests.{all-append, all-weaken}
-use Rattle.tables.specs.Words.{next-of}
+use Rattle.tables.specs.Slots.{next-of}
 use Rattle.tables.specs.Placed.{Cell}
 use Rattle.chain_cells.specs.Cells.{cell-at, cell-key, cell-before}
 use Rattle.chain_cells.specs.Order.{CellsOrdered}

@@ -11,7 +11,8 @@ use lib.Dec.{leb, ltb}
 use lib.ListN.{length, getD, set, length-set}
 use lib.Seq.{getD-set-same, getD-set-other}
 use Rattle.lists.proofs.Bools.{cond-elim, by-cases, or-left, or-right, or-false-intro}
-use Rattle.tables.specs.Words.{Fits32, hi-of}
+use Rattle.tables.specs.Words.{Fits32}
+use Rattle.tables.specs.Slots.{hi-of}
 use Rattle.tables.specs.Sound.{chain-from}
 use Rattle.chain_cover.specs.Walks.{Ordered}
 use Rattle.chain_cover.specs.Skips.{first-slot, drop-while, reaching}

@@ -7,7 +7,7 @@ use native.Mathlib.Decide.{ℕ-discrete}
 use borrow.Author.Tests.{le-leb, lt-leb}
 use lib.ListN.{getD, set, length-set}
 use lib.Seq.{getD-set-same, getD-set-other}
-use Rattle.tables.specs.Words.{hi-of}
+use Rattle.tables.specs.Slots.{hi-of}
 use Rattle.chain_cover.specs.Walks.{Ordered}
 use Rattle.chain_cover.proofs.Skips.{front-ordered}
 use Rattle.scan_heads.specs.Heads.{key-from}

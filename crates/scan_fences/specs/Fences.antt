@@ -5,7 +5,7 @@ use Prim.Native.Nat.{ℕ, zero, suc, _+_, _<_, _≤_, min}
 use lib.Dec.{leb}
 use lib.ListN.{length, getD, set}
 use Rattle.model.specs.Merge.{covered}
-use Rattle.tables.specs.Words.{hi-of}
+use Rattle.tables.specs.Slots.{hi-of}
 use Rattle.tables.specs.Sound.{chain-from}
 use Rattle.tables.specs.Placed.{read-range}
 use Rattle.chain_cover.specs.Walks.{Ordered}

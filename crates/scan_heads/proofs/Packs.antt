@@ -6,7 +6,8 @@ use Prim.Native.Nat.{ℕ, _-_, _<_, _≤_}
 use native.Mathlib.Omega.{arith}
 use native.Mathlib.Decide.{ℕ-discrete}
 use Rattle.lists.specs.All.{All}
-use Rattle.tables.specs.Words.{Fits32, next-of, lo-of}
+use Rattle.tables.specs.Words.{Fits32}
+use Rattle.tables.specs.Slots.{next-of, lo-of}
 use Rattle.tables.specs.Sound.{chain-from}
 use Rattle.chain_cover.proofs.Chains.{On, chain-end, past}
 use Rattle.scan_heads.specs.Heads.{first-lo, key-from, head-at, key-of, level-of, slot-of}

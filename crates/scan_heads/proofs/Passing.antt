@@ -12,7 +12,8 @@ use Rattle.lists.specs.Lists.{sum}
 use Rattle.lists.specs.All.{All}
 use Rattle.lists.proofs.Bools.{by-cases, cond-elim}
 use Rattle.lists.proofs.Tests.{all-both}
-use Rattle.tables.specs.Words.{Fits32, next-of}
+use Rattle.tables.specs.Words.{Fits32}
+use Rattle.tables.specs.Slots.{next-of}
 use Rattle.tables.specs.Sound.{chain-from, ascend}
 use Rattle.chain_cover.specs.Walks.{Ordered}
 use Rattle.chain_cover.proofs.Chains.{On, chain-end, go-on, shorter}

@@ -8,7 +8,7 @@ use lib.Dec.{eqb, ltb}
 use lib.ListN.{length}
 use Rattle.lists.specs.Lists.{sum}
 use Rattle.lists.specs.All.{All}
-use Rattle.tables.specs.Words.{next-of, lo-of}
+use Rattle.tables.specs.Slots.{next-of, lo-of}
 use Rattle.tables.specs.Sound.{chain-from}
 use Rattle.chain_cover.specs.Walks.{Ordered}
 use Rattle.scan_heads.specs.declared.Heads.{Heads}

@@ -6,7 +6,7 @@ use mathlib.Core.List.{List}
 use Prim.Native.Nat.{ℕ, _+_, _<_, _≤_}
 use borrow.Author.Tests.{eq-eqb, ne-eqb, lt-ltb, le-ltb, le-leb, lt-leb}
 use lib.Dec.{ltb}
-use Rattle.tables.specs.Words.{kind-of, tally-of, stamp-of}
+use Rattle.tables.specs.Slots.{kind-of, tally-of, stamp-of}
 use Rattle.scan_heads.specs.Heads.{passed}
 use Rattle.scan_step.specs.declared.Sweep.{Sweep}
 use Rattle.scan_step.specs.Sweeps.{next-key, next-level, told, standing, moved, gone, neared}

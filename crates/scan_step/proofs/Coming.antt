@@ -10,7 +10,8 @@ use lib.Dec.{ltb}
 use Rattle.lists.proofs.Bools.{cond-elim, cond-same}
 use Rattle.model.specs.Records.{Entry, value, tombstone}
 use Rattle.model.specs.Lookup.{Found, absent, reads, lookup}
-use Rattle.tables.specs.Words.{Fits32, lo-of}
+use Rattle.tables.specs.Words.{Fits32}
+use Rattle.tables.specs.Slots.{lo-of}
 use Rattle.tables.specs.Placed.{read-point}
 use Rattle.chain_cover.specs.Walks.{Ordered}
 use Rattle.chain_cover.specs.Skips.{drop-while, beginning}

@@ -8,8 +8,9 @@ use native.Mathlib.Omega.{arith}
 use borrow.Author.Tests.{ne-eqb, eqb-true, eqb-false, ltb-true, ltb-false, leb-true, leb-false}
 use lib.Dec.{eqb, ltb, leb}
 use Rattle.lists.proofs.Bools.{by-cases, cond-elim}
-use Rattle.model.specs.Lookup.{absent, reads, add-row, lookup, live}
-use Rattle.tables.specs.Words.{Fits32, next-of, kind-of, lo-of, stamp-of}
+use Rattle.model.specs.Lookup.{absent, reads, add-row, lookup}
+use Rattle.tables.specs.Words.{Fits32}
+use Rattle.tables.specs.Slots.{next-of, kind-of, lo-of, stamp-of}
 use Rattle.tables.specs.Placed.{read-point}
 use Rattle.lookup_level.proofs.Walks.{points-say, points-here, points-next}
 use Rattle.scan_heads.specs.Heads.{passed, point, left}

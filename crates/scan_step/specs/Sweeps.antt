@@ -8,7 +8,7 @@ use lib.Dec.{eqb, leb, ltb}
 use lib.ListN.{getD}
 use Rattle.model.specs.Lookup.{Row, lookup, live}
 use Rattle.model.specs.Records.{Level}
-use Rattle.tables.specs.Words.{kind-of, tally-of, stamp-of}
+use Rattle.tables.specs.Slots.{kind-of, tally-of, stamp-of}
 use Rattle.lookup_level.specs.Answers.{chain-level}
 use Rattle.scan_heads.specs.declared.Heads.{Heads}
 use Rattle.scan_heads.specs.Heads.{key-of, level-of, passed, point, left, Fits}

@@ -5,7 +5,7 @@ use Prim.Native.Nat.{ℕ, zero, suc, _+_}
 use lib.Dec.{eqb, leb, ltb}
 use lib.ListN.{set, replicate}
 use Rattle.lists.specs.Lists.{iterate}
-use Rattle.tables.specs.Words.{settings-of, level-row}
+use Rattle.tables.specs.Rows.{settings-of, level-row}
 use Rattle.tables.specs.Sound.{chain-from}
 use Rattle.chain_cover.specs.Skips.{first-slot, beginning}
 use Rattle.scan_heads.specs.declared.Heads.{Heads}
@@ -16,14 +16,14 @@ use Rattle.scan_step.specs.Sweeps.{next-key, next-level, told, standing, gone, 
 
 -- The first point of level i that is not before lo.
 abbrev pub front-at : List ℕ → List ℕ → ℕ → ℕ → ℕ
-front-at e l lo i = first-slot (beginning e lo (chain-from e (level-row l i .w0)))
+front-at e l lo i = first-slot (beginning e lo (chain-from e (level-row l i .points)))
 
 -- The heads of n levels from there on, and their first ranges.
 abbrev pub opened-heads : List ℕ → List ℕ → ℕ → ℕ → Heads
 opened-heads e l lo n = iterate (λ i a. pushed a (head-at e i (front-at e l lo i))) 0 n blank
 
 abbrev pub opened-ranges : List ℕ → ℕ → List ℕ
-opened-ranges l n = iterate (λ i rs. set rs i (level-row l i .w1)) 0 n (replicate 7 0)
+opened-ranges l n = iterate (λ i rs. set rs i (level-row l i .ranges)) 0 n (replicate 7 0)
 
 -- A sweep that sets out; no fence is known.
 abbrev pub opened : List ℕ → List ℕ → ℕ → ℕ → Sweep

@@ -1,5 +1,4 @@
 // The live dockets of sound tables in ascending order, one after the other. Each record is passed once: the heads of all levels ascend,
-// and the least is next.
 use chain_cover::seek;
 use scan_fences::survey;
 use scan_heads::Heads;
@@ -15,6 +14,9 @@ use scan_step::go;
 use scan_step::near;
 use scan_step::none;
 use scan_step::stand;
+use table_levels::deepest_of;
+use table_levels::level_at;
+// and the least is next.
 ghost use mathlib.Core.Path.{_≡_};
 ghost use Prim.Native.Nat.{_≤_};
 ghost use Rattle.lookup_level.specs.Readable.{Readable};
@@ -78,13 +80,14 @@ fn open(e: &[u32], l: &[u32], lo: u32, hi: u32) -> Sweep
     requires { ⌜ Readable (now e) (now l) ⌝ }
     ensures { λ r. ⌜ r ≡ opened (now (e .entry)) (now (l .entry)) lo hi ⌝ }
 {
-    let levels = l[0] as usize + 1;
+    let levels = deepest_of(l) + 1;
     let mut heads = nothing();
     let mut ranges = [0usize; 7];
     let mut i = 0;
     while i < levels {
-        heads = push(heads, head(e, i, seek(e, l[4 * (i + 1)] as usize, lo)));
-        ranges[i] = l[4 * (i + 1) + 1] as usize;
+        let row = level_at(l, i);
+        heads = push(heads, head(e, i, seek(e, row.points, lo)));
+        ranges[i] = row.ranges;
         i += 1;
     }
     Sweep {

@@ -7,9 +7,9 @@ use Rattle.model.specs.Merge.{later, merged, settled, joined, freed}
 use Rattle.model.specs.Steps.{single, merge-state, merge-level, merge-all, enter-at, enter, set-points, wipe, act-deepest, crowded, make-room, full, write, no-slot, buffer-due, due, pass-buffer, pass-level, pass, still-due}
 use Rattle.model.specs.Lookup.{find, lookup}
 use Rattle.model.specs.Calls.{prepared, finish, step}
-use Rattle.tables.specs.Words.{set-row}
+use Rattle.tables.specs.Rows.{set-row, row-words}
 use Rattle.tables.specs.Sound.{chain, ascend, level-sound, levels-sound, record-slots, once-each, chains-sound, entries-fit, levels-fit, table-refusal}
-use Rattle.tables.specs.Placed.{read-levels, read-state, lay, lay-all, entry-words, row-words, level-words}
+use Rattle.tables.specs.Placed.{read-levels, read-state, lay, lay-all, entry-words, level-words}
 use Rattle.make_fresh.specs.Fresh.{free-words, made-entries, made-levels}
 use Rattle.make.specs.Make.{make-tables}
 use Rattle.lookup.specs.Lookup.{lookup-tables}

@@ -9,7 +9,7 @@ use lib.ListN.{length, take, drop}
 use Rattle.settings.specs.declared.Settings.{Settings}
 use Rattle.settings.specs.Limits.{allowed}
 use Rattle.lists.proofs.Bools.{cond-elim}
-use Rattle.tables.specs.Words.{slots-of}
+use Rattle.tables.specs.Slots.{slots-of}
 use Rattle.tables.specs.Sound.{entries-fit}
 use Rattle.make.specs.Make.{Made, made, not-made, make-tables}
 use Rattle.script_store.specs.declared.Size.{Size}

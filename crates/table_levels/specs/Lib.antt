@@ -1,2 +1,2 @@
 -- A level's row as the code reads it.
-pub mod Rows
+pub mod Levels

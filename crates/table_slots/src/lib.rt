@@ -1,9 +1,8 @@
 // The words of the entry table: a slot read and written, slot 0 included, and how many slots there are.
 ghost use mathlib.Core.Path.{_≡_};
-ghost use Prim.Native.Nat.{_+_, _*_, _<_};
-ghost use lib.ListN.{length, set};
-ghost use Rattle.tables.specs.Words.{row-of, next-of, kind-of, lo-of, hi-of, tally-of, stamp-of, set-row, slots-of};
-ghost use Rattle.tables.specs.Sound.{order-key, entries-fit};
+ghost use Prim.Native.Nat.{_<_, _≤_};
+ghost use Rattle.tables.specs.Slots.{entry-length, slots-of, InTable, slot-at, set-slot, link-to, span-from, next-of, kind-of, span-of, lo-of, hi-of, tally-of, stamp-of, free-slot, top-slot, first-free, clock-of, with-link, with-clock, with-stamp, with-value};
+ghost use Rattle.tables.specs.Sound.{order-key, top-blank, entries-fit};
 
 // The kinds of records; a free slot has kind 0.
 pub const FREE: u32 = 0;
@@ -14,127 +13,211 @@ pub const DELETE: u32 = 2;
 
 pub const RANGE: u32 = 3;
 
-// Slots are chained, and kinds stacked on them, at this base; so are lo and hi.
+// Words a slot.
+const WORDS: usize = 4;
+
+// The most slots that an entry table can have.
+const MOST: usize = 65535;
+
+// Kinds are stacked on next slots at this base, and hi on lo.
 const BASE: u32 = 65536;
 
 pub fn next_of(e: &[u32], slot: usize) -> usize
-    requires { ⌜ 4 * slot + 3 < length (now e) ⌝ }
+    requires { ⌜ InTable (now e) slot ⌝ }
     ensures { λ r. ⌜ r ≡ next-of (now (e .entry)) slot ⌝ }
 {
-    (e[4 * slot] % BASE) as usize
+    (e[WORDS * slot] % BASE) as usize
 }
 
 pub fn kind_of(e: &[u32], slot: usize) -> u32
-    requires { ⌜ 4 * slot + 3 < length (now e) ⌝ }
+    requires { ⌜ InTable (now e) slot ⌝ }
     ensures { λ r. ⌜ r ≡ kind-of (now (e .entry)) slot ⌝ }
 {
-    e[4 * slot] / BASE
+    e[WORDS * slot] / BASE
 }
 
 // Lo and hi in one word.
 pub fn span_of(e: &[u32], slot: usize) -> u32
-    requires { ⌜ 4 * slot + 3 < length (now e) ⌝ }
-    ensures { λ r. ⌜ r ≡ row-of (now (e .entry)) slot .w1 ⌝ }
+    requires { ⌜ InTable (now e) slot ⌝ }
+    ensures { λ r. ⌜ r ≡ span-of (now (e .entry)) slot ⌝ }
 {
-    e[4 * slot + 1]
+    e[WORDS * slot + 1]
 }
 
 pub fn lo_of(e: &[u32], slot: usize) -> u32
-    requires { ⌜ 4 * slot + 3 < length (now e) ⌝ }
+    requires { ⌜ InTable (now e) slot ⌝ }
     ensures { λ r. ⌜ r ≡ lo-of (now (e .entry)) slot ⌝ }
 {
-    e[4 * slot + 1] % BASE
+    e[WORDS * slot + 1] % BASE
 }
 
 pub fn hi_of(e: &[u32], slot: usize) -> u32
-    requires { ⌜ 4 * slot + 3 < length (now e) ⌝ }
+    requires { ⌜ InTable (now e) slot ⌝ }
     ensures { λ r. ⌜ r ≡ hi-of (now (e .entry)) slot ⌝ }
 {
-    e[4 * slot + 1] / BASE
+    e[WORDS * slot + 1] / BASE
 }
 
 pub fn tally_of(e: &[u32], slot: usize) -> u32
-    requires { ⌜ 4 * slot + 3 < length (now e) ⌝ }
+    requires { ⌜ InTable (now e) slot ⌝ }
     ensures { λ r. ⌜ r ≡ tally-of (now (e .entry)) slot ⌝ }
 {
-    e[4 * slot + 2]
+    e[WORDS * slot + 2]
 }
 
 pub fn stamp_of(e: &[u32], slot: usize) -> u32
-    requires { ⌜ 4 * slot + 3 < length (now e) ⌝ }
+    requires { ⌜ InTable (now e) slot ⌝ }
     ensures { λ r. ⌜ r ≡ stamp-of (now (e .entry)) slot ⌝ }
 {
-    e[4 * slot + 3]
+    e[WORDS * slot + 3]
 }
 
 // One number orders points by docket and ranges by lo, then hi; it is wide, so that one more still fits.
 pub fn order_key(e: &[u32], s: usize) -> usize
-    requires { ⌜ 4 * s + 3 < length (now e) ⌝ }
+    requires { ⌜ InTable (now e) s ⌝ }
     ensures { λ r. ⌜ r ≡ order-key (now (e .entry)) s ⌝ }
 {
     let span = span_of(e, s) as usize;
     span % 65536 * 65536 + span / 65536
 }
 
-// Writes the four words of one row.
-pub fn set_row(table: &mut [u32], row: usize, w0: u32, w1: u32, w2: u32, w3: u32)
-    requires { ⌜ 4 * row + 3 < length (now table) ⌝ }
-    ensures { λ _. ⌜ now (table .exit) ≡ set-row (now (table .entry)) row (record { w0 = w0; w1 = w1; w2 = w2; w3 = w3 }) ⌝ }
+// Slot 0 has the first free slot.
+pub fn first_free(e: &[u32]) -> usize
+    requires { ⌜ InTable (now e) 0 ⌝ }
+    ensures { λ r. ⌜ r ≡ first-free (now (e .entry)) ⌝ }
 {
-    table[4 * row] = w0;
-    table[4 * row + 1] = w1;
-    table[4 * row + 2] = w2;
-    table[4 * row + 3] = w3;
+    e[0] as usize
+}
+
+// And the last accepted clock.
+pub fn clock_of(e: &[u32]) -> u32
+    requires { ⌜ InTable (now e) 0 ⌝ }
+    ensures { λ r. ⌜ r ≡ clock-of (now (e .entry)) ⌝ }
+{
+    e[1]
+}
+
+// Every other word of slot 0 is zero.
+pub fn is_top_blank(e: &[u32]) -> bool
+    requires { ⌜ InTable (now e) 0 ⌝ }
+    ensures { λ r. ⌜ r ≡ top-blank (now (e .entry)) ⌝ }
+{
+    if e[2] != 0 {
+        return false;
+    }
+    e[3] == 0
 }
 
 // Writes the next slot and the kind, which is stacked on it.
 pub fn set_link(e: &mut [u32], slot: usize, next: usize, kind: u32)
-    requires { ⌜ 4 * slot + 3 < length (now e) ⌝ }
+    requires { ⌜ InTable (now e) slot ⌝ }
     requires { ⌜ next < 65536 ⌝ }
     requires { ⌜ kind < 65536 ⌝ }
-    ensures { λ _. ⌜ now (e .exit) ≡ set (now (e .entry)) (4 * slot) (next + 65536 * kind) ⌝ }
+    ensures { λ _. ⌜ now (e .exit) ≡ set-slot (now (e .entry)) slot (with-link (link-to next kind) (slot-at (now (e .entry)) slot)) ⌝ }
 {
-    e[4 * slot] = next as u32 + BASE * kind;
+    e[WORDS * slot] = next as u32 + BASE * kind;
 }
 
 pub fn set_stamp(e: &mut [u32], slot: usize, stamp: u32)
-    requires { ⌜ 4 * slot + 3 < length (now e) ⌝ }
-    ensures { λ _. ⌜ now (e .exit) ≡ set (now (e .entry)) (4 * slot + 3) stamp ⌝ }
+    requires { ⌜ InTable (now e) slot ⌝ }
+    ensures { λ _. ⌜ now (e .exit) ≡ set-slot (now (e .entry)) slot (with-stamp stamp (slot-at (now (e .entry)) slot)) ⌝ }
 {
-    e[4 * slot + 3] = stamp;
+    e[WORDS * slot + 3] = stamp;
 }
 
 // A put over a put changes no more than these two.
 pub fn set_value(e: &mut [u32], slot: usize, tally: u32, stamp: u32)
-    requires { ⌜ 4 * slot + 3 < length (now e) ⌝ }
-    ensures { λ _. ⌜ now (e .exit) ≡ set (set (now (e .entry)) (4 * slot + 2) tally) (4 * slot + 3) stamp ⌝ }
+    requires { ⌜ InTable (now e) slot ⌝ }
+    ensures { λ _. ⌜ now (e .exit) ≡ set-slot (now (e .entry)) slot (with-value tally stamp (slot-at (now (e .entry)) slot)) ⌝ }
 {
-    e[4 * slot + 2] = tally;
-    e[4 * slot + 3] = stamp;
+    e[WORDS * slot + 2] = tally;
+    e[WORDS * slot + 3] = stamp;
+}
+
+// Writes a record that no slot comes after.
+pub fn set_record(e: &mut [u32], slot: usize, kind: u32, lo: u32, hi: u32, tally: u32, stamp: u32)
+    requires { ⌜ InTable (now e) slot ⌝ }
+    requires { ⌜ kind < 65536 ⌝ }
+    requires { ⌜ (lo < 65536) × (hi < 65536) ⌝ }
+    ensures { λ _. ⌜ now (e .exit) ≡ set-slot (now (e .entry)) slot (record { link = link-to 0 kind; span = span-from lo hi; tally = tally; stamp = stamp }) ⌝ }
+{
+    set_slot(e, slot, BASE * kind, lo + BASE * hi, tally, stamp);
+}
+
+// A free slot is zero but for its next, so that nothing of a wiped record is left.
+pub fn set_free(e: &mut [u32], slot: usize, next: usize)
+    requires { ⌜ InTable (now e) slot ⌝ }
+    requires { ⌜ next ≤ 4294967295 ⌝ }
+    ensures { λ _. ⌜ now (e .exit) ≡ set-slot (now (e .entry)) slot (free-slot next) ⌝ }
+{
+    set_slot(e, slot, next as u32, 0, 0, 0);
+}
+
+// Slot 0 of a fresh store: the first free slot, and no clock.
+pub fn set_top(e: &mut [u32], first: usize)
+    requires { ⌜ InTable (now e) 0 ⌝ }
+    requires { ⌜ first ≤ 65535 ⌝ }
+    ensures { λ _. ⌜ now (e .exit) ≡ set-slot (now (e .entry)) 0 (top-slot first 0) ⌝ }
+{
+    set_slot(e, 0, first as u32, 0, 0, 0);
+}
+
+pub fn set_first_free(e: &mut [u32], first: usize)
+    requires { ⌜ InTable (now e) 0 ⌝ }
+    requires { ⌜ first ≤ 65535 ⌝ }
+    ensures { λ _. ⌜ now (e .exit) ≡ set-slot (now (e .entry)) 0 (with-link first (slot-at (now (e .entry)) 0)) ⌝ }
+{
+    e[0] = first as u32;
+}
+
+pub fn set_clock(e: &mut [u32], clock: u32)
+    requires { ⌜ InTable (now e) 0 ⌝ }
+    ensures { λ _. ⌜ now (e .exit) ≡ set-slot (now (e .entry)) 0 (with-clock clock (slot-at (now (e .entry)) 0)) ⌝ }
+{
+    e[1] = clock;
 }
 
 // N, the slots beside slot 0.
 pub fn slot_count(entries: &[u32]) -> usize
     ensures { λ r. ⌜ r ≡ slots-of (now (entries .entry)) ⌝ }
 {
-    let rows = entries.len() / 4;
+    let slots = entries.len() / WORDS;
     // A table without even slot 0 has no slots.
-    if rows == 0 {
+    if slots == 0 {
         return 0;
     }
-    rows - 1
+    slots - 1
 }
 
-// Whether the table has four words for slot 0 and for each of 1 to 65,535 slots.
+// The words of an entry table.
+pub fn entry_length(slots: usize) -> usize
+    requires { ⌜ slots ≤ 65535 ⌝ }
+    ensures { λ r. ⌜ r ≡ entry-length slots ⌝ }
+{
+    WORDS * (slots + 1)
+}
+
+// Whether the table has all words of slot 0 and of each of 1 to 65,535 slots.
 pub fn entries_fit(entries: &[u32]) -> bool
     ensures { λ r. ⌜ r ≡ entries-fit (now (entries .entry)) ⌝ }
 {
     let n = slot_count(entries);
-    if entries.len() != 4 * (n + 1) {
+    if entries.len() != WORDS * (n + 1) {
         return false;
     }
     if n < 1 {
         return false;
     }
-    n <= 65535
+    n <= MOST
+}
+
+// Writes all words of one slot.
+fn set_slot(e: &mut [u32], slot: usize, link: u32, span: u32, tally: u32, stamp: u32)
+    requires { ⌜ InTable (now e) slot ⌝ }
+    ensures { λ _. ⌜ now (e .exit) ≡ set-slot (now (e .entry)) slot (record { link = link; span = span; tally = tally; stamp = stamp }) ⌝ }
+{
+    e[WORDS * slot] = link;
+    e[WORDS * slot + 1] = span;
+    e[WORDS * slot + 2] = tally;
+    e[WORDS * slot + 3] = stamp;
 }

@@ -9,15 +9,16 @@ use Rattle.lists.specs.All.{All}
 use Rattle.lists.proofs.Tests.{all-left, all-right}
 use Rattle.model.specs.Records.{Point, Range, Level, State, empty}
 use Rattle.model.specs.Merge.{point-slots, range-slots}
-use Rattle.tables.specs.Words.{Row, settings-of, level-row, clock-of, first-free}
+use Rattle.tables.specs.Slots.{Slot, first-free, clock-of}
+use Rattle.tables.specs.Rows.{settings-of, Row, level-row}
 use Rattle.tables.specs.Sound.{chain-from}
-use Rattle.tables.specs.Placed.{Cell, free-cell, point-cell, range-cell, level-chains, all-chains, entry-words, level-words, row-of-level, read-point, read-range, read-level, read-levels, read-state}
+use Rattle.tables.specs.Placed.{Cell, free-cell, point-cell, range-cell, level-chains, all-chains, entry-words, level-words, row-of-level, read-point, read-range, read-level, read-levels, read-state, top-of}
 use Rattle.tables.specs.Formed.{LevelFormed, levels-slots, Formed}
 use Rattle.tables.proofs.Cells.{Chained, AllChained, cell-slots, chain-slots, Holds, Slots, AllSlots, holds-one}
 use Rattle.tables.proofs.Once.{OnceFacts, once-facts, Inside, once-inside, once-most}
-use Rattle.tables.proofs.Lay.{top-row, words-hold}
+use Rattle.tables.proofs.Lay.{words-hold}
 use Rattle.tables.proofs.Reading.{chain-reads, free-slots-back, points-back, ranges-back}
-use Rattle.tables.proofs.LevelRows.{settings-back, level-row-at}
+use Rattle.tables.proofs.Rows.{settings-back, level-row-at}
 
 -- The slots of a state's chains are its free slots and its records'.
 pub point-cell-slots : (ps : List (Point ℕ ℕ)) → cell-slots (map point-cell ps) ≡ point-slots ps
@@ -50,12 +51,12 @@ module _ (n : ℕ) (p : State ℕ ℕ) (f : Formed n p) where
   formed-once = rw (all-chain-slots p) (once-facts n (p .free ++ levels-slots (p .levels)) (f .slots-once))
 
   -- The words of a formed state hold its chains.
-  pub formed-holds : Holds n (top-row p) (all-chains p) (entry-words n p)
+  pub formed-holds : Holds n (top-of p) (all-chains p) (entry-words n p)
   formed-holds = words-hold n p (all-slots-inside n (all-chains p) (once-inside n (chain-slots (all-chains p)) formed-once)) (once-most n (chain-slots (all-chains p)) formed-once)
 
   -- And no other entry table does.
-  pub formed-words : (e : List ℕ) → Holds n (top-row p) (all-chains p) e → e ≡ entry-words n p
-  formed-words e h = holds-one n (top-row p) (all-chains p) e (entry-words n p) (formed-once .each) h formed-holds
+  pub formed-words : (e : List ℕ) → Holds n (top-of p) (all-chains p) e → e ≡ entry-words n p
+  formed-words e h = holds-one n (top-of p) (all-chains p) e (entry-words n p) (formed-once .each) h formed-holds
 
 -- A chain is no longer than all of them.
 abbrev pub Short : ℕ → List (List Cell) → Type 0
@@ -74,13 +75,13 @@ module _ (n : ℕ) (small : n < 65536) (clock : ℕ) (e l : List ℕ) where
   level-back : (i : ℕ) (v : Level ℕ ℕ) → LevelFormed clock v → level-row l i ≡ row-of-level v → Chained n e (map point-cell (v .points)) → Chained n e (map range-cell (v .ranges))
       → length (map point-cell (v .points)) ≤ length e → length (map range-cell (v .ranges)) ≤ length e → read-level e l i ≡ v
   level-back i v f r cp cr lp lr =
-      let ps : map (read-point e) (chain-from e (level-row l i .w0)) ≡ v .points =
-      ap (λ (x : Row). map (read-point e) (chain-from e (x .w0))) r
+      let ps : map (read-point e) (chain-from e (level-row l i .points)) ≡ v .points =
+      ap (λ (x : Row). map (read-point e) (chain-from e (x .points))) r
       ∙ ap (map (read-point e)) (chain-reads n (length e) e (map point-cell (v .points)) small cp lp) ∙ points-back n e small (v .points) (f .keys) cp in
-      let rs : map (read-range e) (chain-from e (level-row l i .w1)) ≡ v .ranges =
-      ap (λ (x : Row). map (read-range e) (chain-from e (x .w1))) r
+      let rs : map (read-range e) (chain-from e (level-row l i .ranges)) ≡ v .ranges =
+      ap (λ (x : Row). map (read-range e) (chain-from e (x .ranges))) r
       ∙ ap (map (read-range e)) (chain-reads n (length e) e (map range-cell (v .ranges)) small cr lr) ∙ ranges-back n e small (v .ranges) (f .spans) cr in
-      rw (ps, rs, ap (λ (x : Row). x .w3) r)
+      rw (ps, rs, ap (λ (x : Row). x .owed) r)
 
   levels-back : (vs : List (Level ℕ ℕ)) (i : ℕ) → ((m : ℕ) → m < length vs → level-row l (i + m) ≡ row-of-level (getD vs m empty)) → All (LevelFormed clock) vs
       → AllChained n e (level-chains vs) → Short (length e) (level-chains vs) → read-levels e l (length vs) i ≡ vs
@@ -94,14 +95,14 @@ module _ (n : ℕ) (small : n < 65536) (clock : ℕ) (e l : List ℕ) where
 
 module _ (n : ℕ) (p : State ℕ ℕ) (f : Formed n p) where
   -- A table that holds a formed state's chains, with its level table, reads as that state.
-  pub holds-reads : (e : List ℕ) → Holds n (top-row p) (all-chains p) e → read-state e (level-words p) ≡ p
+  pub holds-reads : (e : List ℕ) → Holds n (top-of p) (all-chains p) e → read-state e (level-words p) ≡ p
   unfolding read-state
   holds-reads e h =
       let small : n < 65536 = omega (arith, f .many) in
       let short : Short (length e) (all-chains p) = short-all (length e) (all-chains p) (omega (arith, formed-once n p f .number, h .room)) in
       let free≡ : chain-from e (first-free e) ≡ p .free =
-      ap (λ (r : Row). chain-from e (r .w0)) (h .first) ∙ chain-reads n (length e) e (map free-cell (p .free)) small (h .each .0) (short .0) ∙ free-slots-back (p .free) in
-      let clock≡ : clock-of e ≡ p .clock = ap (λ (r : Row). r .w1) (h .first) in
+      ap (λ (r : Slot). chain-from e (r .link)) (h .first) ∙ chain-reads n (length e) e (map free-cell (p .free)) small (h .each .0) (short .0) ∙ free-slots-back (p .free) in
+      let clock≡ : clock-of e ≡ p .clock = ap (λ (r : Slot). r .span) (h .first) in
       let levels≡ : read-levels e (level-words p) (suc (settings-of (level-words p) .deepest)) 0 ≡ p .levels =
       ap (λ k. read-levels e (level-words p) k 0) (ap (λ (s : Settings). suc (s .deepest)) (settings-back p) ∙ sym (f .size))
       ∙ levels-back n small (p .clock) e (level-words p) (p .levels) 0 (λ m b. ap (level-row (level-words p)) (omega arith) ∙ level-row-at p m b) (f .levels-ok) (h .each .1) (short .1) in

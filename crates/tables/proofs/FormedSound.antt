@@ -13,14 +13,16 @@ use Rattle.lists.proofs.Bools.{and-intro}
 use Rattle.lists.proofs.Tests.{length-of-none, all-every-true, all-append, all-every}
 use Rattle.model.specs.Records.{Entry, value, tombstone, Point, Range, Level, State, empty, is-put, held}
 use Rattle.model.specs.Merge.{point-slots, range-slots}
-use Rattle.tables.specs.Words.{Fits32, Row, slots-of, clock-of, settings-of, level-row}
+use Rattle.tables.proofs.Linked.{top-written, top-form}
+use Rattle.tables.specs.Slots.{entry-length, slots-of, Slot, first-free, clock-of}
+use Rattle.tables.specs.Rows.{level-length, settings-of, Row, level-row}
+use Rattle.tables.specs.Words.{Fits32}
 use Rattle.tables.specs.Sound.{free-chain, point-chain, range-chain, is-free, level-sound, levels-sound, record-slots, chains-sound, entries-fit, levels-fit, table-refusal}
-use Rattle.tables.specs.Placed.{free-cell, entry-kind, point-cell, range-cell, level-chains, all-chains, row-of-level, entry-words, level-words, read-level, read-state}
+use Rattle.tables.specs.Placed.{free-cell, entry-kind, point-cell, range-cell, level-chains, all-chains, row-of-level, entry-words, level-words, read-level, read-state, top-of}
 use Rattle.tables.specs.Formed.{LevelFormed, levels-slots, Formed}
 use Rattle.tables.proofs.Cells.{Chained, AllChained, cell-slots, Holds}
 use Rattle.tables.proofs.Once.{once-facts, facts-once}
-use Rattle.tables.proofs.Lay.{top-row}
-use Rattle.tables.proofs.LevelRows.{settings-back, length-level-words, level-row-at}
+use Rattle.tables.proofs.Rows.{length-level-words, settings-back, level-row-at}
 use Rattle.tables.proofs.Reading.{free-slots-back}
 use Rattle.tables.proofs.Back.{formed-holds, holds-reads, point-cell-slots, range-cell-slots}
 use Rattle.tables.proofs.LevelSound.{LevelSound, facts-level}
@@ -39,13 +41,12 @@ facts-sound e l f =
     let n : ℕ = slots-of e in
     let d : ℕ = settings-of l .deepest in
     rw (
-      eq-eqb (length e) (4 * (n + 1)) (f .length-entries),
+      eq-eqb (length e) (entry-length n) (f .length-entries),
       le-leb 1 n (f .few),
       le-leb n 65535 (f .many),
-      eq-eqb (length l) (4 * (d + 2)) (f .length-levels),
+      eq-eqb (length l) (level-length d) (f .length-levels),
       f .settings-ok,
-      f .third,
-      f .fourth,
+      top-form e (first-free e) (clock-of e) (f .top),
       all-every-true (is-free e) (free-chain e) (f .free-forms),
       levels-all e l (suc d) 0 (λ m a b. f .levels m (omega arith)),
       f .deepest-owes-nothing,
@@ -63,7 +64,7 @@ formed-at clock [] i h a = absurd (omega arith)
 formed-at clock (l ∷ ls) zero h a = a .0
 formed-at clock (l ∷ ls) (suc i) h a = formed-at clock ls i (omega arith) (a .1)
 
-module _ (n : ℕ) (p : State ℕ ℕ) (f : Formed n p) (e : List ℕ) (h : Holds n (top-row p) (all-chains p) e) where
+module _ (n : ℕ) (p : State ℕ ℕ) (f : Formed n p) (e : List ℕ) (h : Holds n (top-of p) (all-chains p) e) where
   abbrev words : List ℕ
   words = level-words p
 
@@ -74,7 +75,7 @@ module _ (n : ℕ) (p : State ℕ ℕ) (f : Formed n p) (e : List ℕ) (h : Hold
   reads = holds-reads n p f e h
 
   clock≡ : clock-of e ≡ p .clock
-  clock≡ = ap (λ (r : Row). r .w1) (h .first)
+  clock≡ = ap (λ (r : Slot). r .span) (h .first)
 
   deepest≡ : settings-of words .deepest ≡ p .settings .deepest
   deepest≡ = ap (λ (s : Settings). s .deepest) (settings-back p)
@@ -94,11 +95,11 @@ module _ (n : ℕ) (p : State ℕ ℕ) (f : Formed n p) (e : List ℕ) (h : Hold
     unfolding v
     row≡ = level-row-at p i in-range
 
-    owed≡ : level-row words i .w3 ≡ v .owed
-    owed≡ = ap (λ (r : Row). r .w3) row≡
+    owed≡ : level-row words i .owed ≡ v .owed
+    owed≡ = ap (λ (r : Row). r .owed) row≡
 
-    number≡ : level-row words i .w2 ≡ held v
-    number≡ = ap (λ (r : Row). r .w2) row≡
+    number≡ : level-row words i .held ≡ held v
+    number≡ = ap (λ (r : Row). r .held) row≡
 
     points≡ : point-chain e words i ≡ cell-slots (map point-cell (v .points))
     points≡ = sym (point-read-slots e (point-chain e words i)) ∙ ap (λ (x : Level ℕ ℕ). point-slots (x .points)) level≡ ∙ sym (point-cell-slots (v .points))
@@ -155,17 +156,16 @@ module _ (n : ℕ) (p : State ℕ ℕ) (f : Formed n p) (e : List ℕ) (h : Hold
   -- Tables that hold a formed state's chains are sound.
   pub formed-sound : Sound e (level-words p)
   formed-sound = record {
-    length-entries = h .room ∙ ap (λ k. 4 * (k + 1)) (sym slots≡);
+    length-entries = h .room ∙ ap entry-length (sym slots≡);
     few = rw slots≡ (f .few);
     many = rw slots≡ (f .many);
     length-levels = length-level-words p ∙ omega (arith, f .size, deepest≡);
     settings-ok = rw (settings-back p) (f .settings-ok);
-    third = ap (λ (r : Row). r .w2) (h .first);
-    fourth = ap (λ (r : Row). r .w3) (h .first);
+    top = top-written e (top-form e _ _ (h .first));
     free-forms = rw (free≡ ∙ sym (free-slots-back (p .free)))
         (chained-all n e small free-cell _ (λ s. Unit {0}) (λ s k l m r. free-form n e small s k l r) (p .free) (all-every _ (λ s. tt) (p .free)) (h .each .0));
     levels = λ i b. level-is-sound i (rw deepest≡ at b);
-    deepest-owes-nothing = ap (λ k. level-row words k .w3) deepest≡ ∙ ap (λ (r : Row). r .w3) (level-row-at p (p .settings .deepest) (omega (arith, f .size))) ∙ f .deepest-owes-nothing;
+    deepest-owes-nothing = ap (λ k. level-row words k .owed) deepest≡ ∙ ap (λ (r : Row). r .owed) (level-row-at p (p .settings .deepest) (omega (arith, f .size))) ∙ f .deepest-owes-nothing;
     once = rw (slots≡, free≡, records≡) (once-facts n (p .free ++ levels-slots (p .levels)) (f .slots-once));
   }
 

@@ -7,22 +7,22 @@ use native.Mathlib.Decide.{ℕ-discrete}
 use lib.ListN.{length, replicate, length-replicate}
 use Rattle.lists.specs.Lists.{count}
 use Rattle.model.specs.Records.{State}
-use Rattle.tables.specs.Words.{Row, set-row}
-use Rattle.tables.specs.Placed.{Cell, free-cell, head, cell-row, lay, lay-all, all-chains, entry-words}
-use Rattle.tables.proofs.Rows.{length-set-row, row-same, row-other}
+use Rattle.tables.specs.Slots.{entry-length, Slot, set-slot}
+use Rattle.tables.specs.Placed.{Cell, head, lay, lay-all, all-chains, entry-words, cell-slot, top-of}
+use Rattle.tables.proofs.Slots.{length-set-slot, slot-other, slot-same}
 use Rattle.tables.proofs.Cells.{Chained, AllChained, cell-slots, chain-slots, times, times-append, times-head, times-other, Holds, Slots, AllSlots, length-lay, length-lay-all}
 
--- Another row written leaves a chain that has not that slot.
-module _ (n s : ℕ) (e : List ℕ) (r : Row) where
-  chained-off : (cs : List Cell) → times s (cell-slots cs) ≡ 0 → Chained n e cs → Chained n (set-row e s r) cs
+-- Another slot written leaves a chain that has not that slot.
+module _ (n s : ℕ) (e : List ℕ) (r : Slot) where
+  chained-off : (cs : List Cell) → times s (cell-slots cs) ≡ 0 → Chained n e cs → Chained n (set-slot e s r) cs
   chained-off [] z h = tt
   chained-off (c ∷ cs) z h = go (λ m. chained-off cs m (h .3)) (ℕ-discrete s (c .slot))
     where
-      go : (times s (cell-slots cs) ≡ 0 → Chained n (set-row e s r) cs) → Dec (s ≡ c .slot) → Chained n (set-row e s r) (c ∷ cs)
+      go : (times s (cell-slots cs) ≡ 0 → Chained n (set-slot e s r) cs) → Dec (s ≡ c .slot) → Chained n (set-slot e s r) (c ∷ cs)
       go ih (yes q) = absurd (omega (arith, ap (λ t. times s (t ∷ cell-slots cs)) (sym q), times-head s (cell-slots cs)))
-      go ih (no q) = (h .0, h .1, row-other e s r (c .slot) q ∙ h .2, ih (omega (arith, times-other s (c .slot) (cell-slots cs) q)))
+      go ih (no q) = (h .0, h .1, slot-other e s r (c .slot) q ∙ h .2, ih (omega (arith, times-other s (c .slot) (cell-slots cs) q)))
 
-  pub all-off : (cs : List (List Cell)) → times s (chain-slots cs) ≡ 0 → AllChained n e cs → AllChained n (set-row e s r) cs
+  pub all-off : (cs : List (List Cell)) → times s (chain-slots cs) ≡ 0 → AllChained n e cs → AllChained n (set-slot e s r) cs
   all-off [] z h = tt
   all-off (c ∷ cs) z h = (
     chained-off c (omega (arith, times-append s (cell-slots c) (chain-slots cs))) (h .0),
@@ -30,15 +30,15 @@ module _ (n s : ℕ) (e : List ℕ) (r : Row) where
   )
 
 -- A chain laid is there, if no slot stands twice in it.
-lay-chained : (n : ℕ) (e : List ℕ) (cs : List Cell) → length e ≡ 4 * (n + 1) → Slots n cs → ((s : ℕ) → times s (cell-slots cs) ≤ 1) → Chained n (lay e cs) cs
+lay-chained : (n : ℕ) (e : List ℕ) (cs : List Cell) → length e ≡ entry-length n → Slots n cs → ((s : ℕ) → times s (cell-slots cs) ≤ 1) → Chained n (lay e cs) cs
 unfolding lay
 lay-chained n e [] l b h = tt
 lay-chained n e (c ∷ cs) l b h =
     let rest : Chained n (lay e cs) cs = lay-chained n e cs l (b .2) (λ s. tail s (ℕ-discrete s (c .slot))) in (
       b .0,
       b .1,
-      row-same (lay e cs) (c .slot) (cell-row (head cs) c) (omega (arith, length-lay e cs, b .1)),
-      chained-off n (c .slot) (lay e cs) (cell-row (head cs) c) cs (omega (arith, h (c .slot), times-head (c .slot) (cell-slots cs))) rest,
+      slot-same (lay e cs) (c .slot) (cell-slot (head cs) c) (omega (arith, length-lay e cs, b .1)),
+      chained-off n (c .slot) (lay e cs) (cell-slot (head cs) c) cs (omega (arith, h (c .slot), times-head (c .slot) (cell-slots cs))) rest,
     )
   where
     tail : (s : ℕ) → Dec (s ≡ c .slot) → times s (cell-slots cs) ≤ 1
@@ -50,14 +50,14 @@ lay-off : (n : ℕ) (e : List ℕ) (cs : List Cell) (ds : List (List Cell)) → 
 unfolding lay
 lay-off n e [] ds h a = a
 lay-off n e (c ∷ cs) ds h a =
-    all-off n (c .slot) (lay e cs) (cell-row (head cs) c) ds (omega (arith, h (c .slot), times-head (c .slot) (cell-slots cs)))
+    all-off n (c .slot) (lay e cs) (cell-slot (head cs) c) ds (omega (arith, h (c .slot), times-head (c .slot) (cell-slots cs)))
     (lay-off n e cs ds (λ s. less s (ℕ-discrete s (c .slot))) a)
   where
     less : (s : ℕ) → Dec (s ≡ c .slot) → times s (cell-slots cs) + times s (chain-slots ds) ≤ 1
     less s (yes q) = omega (arith, h s, ap (λ t. times s (t ∷ cell-slots cs)) (sym q), times-head s (cell-slots cs))
     less s (no q) = omega (arith, h s, times-other s (c .slot) (cell-slots cs) q)
 
-lay-all-chained : (n : ℕ) (e : List ℕ) (cs : List (List Cell)) → length e ≡ 4 * (n + 1) → AllSlots n cs → ((s : ℕ) → times s (chain-slots cs) ≤ 1) → AllChained n (lay-all e cs) cs
+lay-all-chained : (n : ℕ) (e : List ℕ) (cs : List (List Cell)) → length e ≡ entry-length n → AllSlots n cs → ((s : ℕ) → times s (chain-slots cs) ≤ 1) → AllChained n (lay-all e cs) cs
 unfolding lay-all
 lay-all-chained n e [] l b h = tt
 lay-all-chained n e (c ∷ cs) l b h =
@@ -77,19 +77,15 @@ unfolding count
 no-zeros n [] b = refl
 no-zeros n (c ∷ cs) b = omega (arith, times-append 0 (cell-slots c) (chain-slots cs), no-zero n c (b .0), no-zeros n cs (b .1))
 
--- The row of slot 0.
-abbrev pub top-row : State ℕ ℕ → Row
-top-row p = record { w0 = head (map free-cell (p .free)); w1 = p .clock; w2 = 0; w3 = 0 }
-
-pub words-hold : (n : ℕ) (p : State ℕ ℕ) → AllSlots n (all-chains p) → ((s : ℕ) → times s (chain-slots (all-chains p)) ≤ 1) → Holds n (top-row p) (all-chains p) (entry-words n p)
+pub words-hold : (n : ℕ) (p : State ℕ ℕ) → AllSlots n (all-chains p) → ((s : ℕ) → times s (chain-slots (all-chains p)) ≤ 1) → Holds n (top-of p) (all-chains p) (entry-words n p)
 unfolding entry-words
 words-hold n p b h =
-    let zeros : List ℕ = replicate (4 * (n + 1)) 0 in
+    let zeros : List ℕ = replicate (entry-length n) 0 in
     let base : List ℕ = lay-all zeros (all-chains p) in
-    let l : length zeros ≡ 4 * (n + 1) = length-replicate (4 * (n + 1)) 0 in
-    let lb : length base ≡ 4 * (n + 1) = length-lay-all zeros (all-chains p) ∙ l in
+    let l : length zeros ≡ entry-length n = length-replicate (entry-length n) 0 in
+    let lb : length base ≡ entry-length n = length-lay-all zeros (all-chains p) ∙ l in
     record {
-      room = length-set-row base 0 (top-row p) ∙ lb;
-      first = row-same base 0 (top-row p) (omega arith);
-      each = all-off n 0 base (top-row p) (all-chains p) (no-zeros n (all-chains p) b) (lay-all-chained n zeros (all-chains p) l b h);
+      room = length-set-slot base 0 (top-of p) ∙ lb;
+      first = slot-same base 0 (top-of p) (omega arith);
+      each = all-off n 0 base (top-of p) (all-chains p) (no-zeros n (all-chains p) b) (lay-all-chained n zeros (all-chains p) l b h);
     }

@@ -13,10 +13,13 @@ use Rattle.lists.proofs.Bools.{and-left, and-right, and-intro, or-second, or-le
 use Rattle.lists.proofs.Tests.{none-of-length, every-all, all-every-true, all-every, all-left, all-right, all-weaken, all-map}
 use Rattle.model.specs.Records.{value, tombstone, is-put}
 use Rattle.model.specs.Merge.{point-before, range-before}
-use Rattle.tables.specs.Words.{Fits32, kind-of, lo-of, hi-of, tally-of, stamp-of, clock-of, level-row}
+use Rattle.tables.specs.Slots.{kind-of, lo-of, hi-of, tally-of, stamp-of, clock-of}
+use Rattle.tables.specs.Rows.{level-row}
+use Rattle.tables.specs.Words.{Fits32}
 use Rattle.tables.specs.Sound.{point-chain, range-chain, is-point, is-range, order-key, ascend, is-stamped, owed-before, level-sound}
 use Rattle.tables.specs.Placed.{read-point, read-range, read-level}
 use Rattle.tables.specs.Formed.{LevelFormed}
+use Rattle.tables.proofs.Slots.{hi-small}
 
 module _ (e l : List ℕ) (i : ℕ) where
   abbrev points : List ℕ
@@ -26,7 +29,7 @@ module _ (e l : List ℕ) (i : ℕ) where
   ranges = range-chain e l i
 
   abbrev owed : ℕ
-  owed = level-row l i .w3
+  owed = level-row l i .owed
 
   pub record LevelSound : Type 0 where
     pub point-forms : All (λ s. is-point e s ≡ true) (point-chain e l i)
@@ -34,10 +37,10 @@ module _ (e l : List ℕ) (i : ℕ) where
     pub range-forms : All (λ s. is-range e s ≡ true) (range-chain e l i)
     pub range-order : ascend e 0 (range-chain e l i) ≡ true
     pub stamps : All (λ s. is-stamped e s ≡ true) (point-chain e l i ++ range-chain e l i)
-    pub owes : All (λ s. owed-before e (level-row l i .w3) s ≡ true) (point-chain e l i ++ range-chain e l i)
-    pub number : level-row l i .w2 ≡ length (point-chain e l i ++ range-chain e l i)
-    pub owed-clock : level-row l i .w3 ≤ clock-of e
-    pub owed-empty : none (point-chain e l i ++ range-chain e l i) ≡ true → level-row l i .w3 ≡ 0
+    pub owes : All (λ s. owed-before e (level-row l i .owed) s ≡ true) (point-chain e l i ++ range-chain e l i)
+    pub number : level-row l i .held ≡ length (point-chain e l i ++ range-chain e l i)
+    pub owed-clock : level-row l i .owed ≤ clock-of e
+    pub owed-empty : none (point-chain e l i ++ range-chain e l i) ≡ true → level-row l i .owed ≡ 0
 
   pub level-facts : level-sound e l i ≡ true → LevelSound
   unfolding level-sound
@@ -48,7 +51,7 @@ module _ (e l : List ℕ) (i : ℕ) where
       let a4 : Bool = ascend e 0 ranges in
       let a5 : Bool = every (is-stamped e) (points ++ ranges) in
       let a6 : Bool = every (owed-before e owed) (points ++ ranges) in
-      let a7 : Bool = eqb (level-row l i .w2) (length (points ++ ranges)) in
+      let a7 : Bool = eqb (level-row l i .held) (length (points ++ ranges)) in
       let a8 : Bool = leb owed (clock-of e) in
       let a9 : Bool = not (none (points ++ ranges)) || eqb owed 0 in
       let h8 = and-left (a1 && a2 && (a3 && a4) && a5 && a6 && a7 && a8) a9 h in
@@ -65,7 +68,7 @@ module _ (e l : List ℕ) (i : ℕ) where
         range-order = and-right a3 a4 h34;
         stamps = every-all (is-stamped e) (points ++ ranges) (and-right (a1 && a2 && (a3 && a4)) a5 h5);
         owes = every-all (owed-before e owed) (points ++ ranges) (and-right (a1 && a2 && (a3 && a4) && a5) a6 h6);
-        number = eqb-true (level-row l i .w2) (length (points ++ ranges)) (and-right (a1 && a2 && (a3 && a4) && a5 && a6) a7 h7);
+        number = eqb-true (level-row l i .held) (length (points ++ ranges)) (and-right (a1 && a2 && (a3 && a4) && a5 && a6) a7 h7);
         owed-clock = leb-true owed (clock-of e) (and-right (a1 && a2 && (a3 && a4) && a5 && a6 && a7) a8 h8);
         owed-empty = λ n. eqb-true owed 0 (or-second (not (none (points ++ ranges))) (eqb owed 0) (and-right (a1 && a2 && (a3 && a4) && a5 && a6 && a7 && a8) a9 h) (ap not n));
       }
@@ -80,7 +83,7 @@ module _ (e l : List ℕ) (i : ℕ) where
         f .range-order,
         all-every-true (is-stamped e) (points ++ ranges) (f .stamps),
         all-every-true (owed-before e owed) (points ++ ranges) (f .owes),
-        eq-eqb (level-row l i .w2) (length (points ++ ranges)) (f .number),
+        eq-eqb (level-row l i .held) (length (points ++ ranges)) (f .number),
         le-leb owed (clock-of e) (f .owed-clock),
       )
       (by-cases (none (points ++ ranges)) (λ n. or-right (not (none (points ++ ranges))) (eqb owed 0) (eq-eqb owed 0 (f .owed-empty n))) (λ n. or-left (not (none (points ++ ranges))) (eqb owed 0) (ap not n)))
@@ -111,14 +114,11 @@ module _ (e : List ℕ) where
       both [] a b = tt
       both (t ∷ ts) a b = (lt-ltb (lo-of e s) (lo-of e t) (omega (arith, point-spans s (f .0), point-spans t (a .0), b .0)), both ts (a .1) (b .1))
 
-  hi-small : Fits32 e → (s : ℕ) → hi-of e s ≤ 65535
-  hi-small w s = omega (arith, w (4 * s + 1))
-
   range-less : Fits32 e → (s t : ℕ) → order-key e s + 1 ≤ order-key e t → range-before (read-range e s) (read-range e t) ≡ true
   range-less w s t h = by-cases (eqb (lo-of e s) (lo-of e t))
       (λ q. or-right (ltb (lo-of e s) (lo-of e t)) _ (and-intro (eqb (lo-of e s) (lo-of e t)) (ltb (hi-of e s) (hi-of e t)) q
       (lt-ltb (hi-of e s) (hi-of e t) (omega (arith, eqb-true (lo-of e s) (lo-of e t) q)))))
-      (λ q. or-left (ltb (lo-of e s) (lo-of e t)) _ (lt-ltb (lo-of e s) (lo-of e t) (omega (arith, eqb-false (lo-of e s) (lo-of e t) q, hi-small w s, hi-small w t))))
+      (λ q. or-left (ltb (lo-of e s) (lo-of e t)) _ (lt-ltb (lo-of e s) (lo-of e t) (omega (arith, eqb-false (lo-of e s) (lo-of e t) q, hi-small e w s, hi-small e w t))))
 
   ranges-ascend : Fits32 e → (least : ℕ) (ss : List ℕ) → ascend e least ss ≡ true → Ascending range-before (map (read-range e) ss)
   unfolding ascend
@@ -144,11 +144,11 @@ module _ (e l : List ℕ) (i : ℕ) (w : Fits32 e) (f : LevelSound e l i) where
   )
 
   -- A record that is no put has the level owing since its stamp or before.
-  owing : (s : ℕ) → owed-before e (level-row l i .w3) s ≡ true → eqb (kind-of e s) 1 ≡ false → (1 ≤ level-row l i .w3) × (level-row l i .w3 ≤ stamp-of e s)
+  owing : (s : ℕ) → owed-before e (level-row l i .owed) s ≡ true → eqb (kind-of e s) 1 ≡ false → (1 ≤ level-row l i .owed) × (level-row l i .owed ≤ stamp-of e s)
   owing s h k =
-      let both = or-second (eqb (kind-of e s) 1) (not (eqb (level-row l i .w3) 0) && leb (level-row l i .w3) (stamp-of e s)) h k in
-      let ne = eqb-false (level-row l i .w3) 0 (not-true (eqb (level-row l i .w3) 0) (and-left (not (eqb (level-row l i .w3) 0)) (leb (level-row l i .w3) (stamp-of e s)) both)) in
-      (omega arith, leb-true (level-row l i .w3) (stamp-of e s) (and-right (not (eqb (level-row l i .w3) 0)) (leb (level-row l i .w3) (stamp-of e s)) both))
+      let both = or-second (eqb (kind-of e s) 1) (not (eqb (level-row l i .owed) 0) && leb (level-row l i .owed) (stamp-of e s)) h k in
+      let ne = eqb-false (level-row l i .owed) 0 (not-true (eqb (level-row l i .owed) 0) (and-left (not (eqb (level-row l i .owed) 0)) (leb (level-row l i .owed) (stamp-of e s)) both)) in
+      (omega arith, leb-true (level-row l i .owed) (stamp-of e s) (and-right (not (eqb (level-row l i .owed) 0)) (leb (level-row l i .owed) (stamp-of e s)) both))
 
   put-kind : (s : ℕ) (b : Bool) → eqb (kind-of e s) 1 ≡ b → is-put (cond b (value (tally-of e s)) tombstone) ≡ false → b ≡ false
   put-kind s true q h = h
@@ -159,7 +159,7 @@ module _ (e l : List ℕ) (i : ℕ) (w : Fits32 e) (f : LevelSound e l i) where
       let three = eqb-true (kind-of e s) 3 (and-left (eqb (kind-of e s) 3) (eqb (tally-of e s) 0) (and-right (leb (lo-of e s) (hi-of e s)) (eqb (kind-of e s) 3 && eqb (tally-of e s) 0) h)) in
       ne-eqb (kind-of e s) 1 (omega arith)
 
-  both-ranges : (ss : List ℕ) → All (λ s. is-range e s ≡ true) ss → All (λ s. owed-before e (level-row l i .w3) s ≡ true) ss → All (λ s. (1 ≤ level-row l i .w3) × (level-row l i .w3 ≤ stamp-of e s)) ss
+  both-ranges : (ss : List ℕ) → All (λ s. is-range e s ≡ true) ss → All (λ s. owed-before e (level-row l i .owed) s ≡ true) ss → All (λ s. (1 ≤ level-row l i .owed) × (level-row l i .owed ≤ stamp-of e s)) ss
   both-ranges [] a b = tt
   both-ranges (s ∷ ss) a b = (owing s (b .0) (range-kind s (a .0)), both-ranges ss (a .1) (b .1))
 

@@ -1,11 +1,11 @@
 -- Laws of the tables' words.
-pub mod Rows
+pub mod Slots
 pub mod Lengths
 pub mod Cells
 pub mod Once
 pub mod Lay
 pub mod Reading
-pub mod LevelRows
+pub mod Rows
 pub mod Back
 pub mod Linked
 pub mod LevelSound

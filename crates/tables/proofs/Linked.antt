@@ -10,10 +10,10 @@ use lib.Dec.{eqb, leb}
 use lib.ListN.{length}
 use borrow.Author.Tests.{eqb-true, eq-eqb, ne-eqb}
 use Rattle.lists.specs.All.{All}
-use Rattle.lists.proofs.Bools.{and-left, and-right, by-cases, or-second}
-use Rattle.tables.specs.Words.{Row, row-of, next-of, kind-of, lo-of, hi-of, tally-of, stamp-of}
-use Rattle.tables.specs.Sound.{chain, is-free, is-point, is-range}
-use Rattle.tables.specs.Placed.{Cell, free-cell, point-cell, range-cell, head, cell-row, read-point, read-range}
+use Rattle.lists.proofs.Bools.{and-left, and-right, and-intro, by-cases, or-second}
+use Rattle.tables.specs.Slots.{Slot, slot-at, next-of, kind-of, span-of, lo-of, hi-of, tally-of, stamp-of, top-slot, first-free, clock-of}
+use Rattle.tables.specs.Sound.{chain, is-free, is-point, is-range, top-blank}
+use Rattle.tables.specs.Placed.{Cell, free-cell, point-cell, range-cell, head, read-point, read-range, cell-slot}
 use Rattle.tables.proofs.Cells.{Chained}
 use Rattle.tables.proofs.Once.{Inside}
 
@@ -44,42 +44,55 @@ linked-chain (s ∷ ss) (suc k) e h c l =
 
 -- The rows of a linked list, where each is its cell's row.
 pub linked-chained : (n : ℕ) (e : List ℕ) (cell : ℕ → Cell) → ((s : ℕ) → cell s .slot ≡ s) → (h : ℕ) (ss : List ℕ) → Linked e h ss → All (Inside n) ss
-    → All (λ s. row-of e s ≡ cell-row (next-of e s) (cell s)) ss → (Chained n e (map cell ss)) × (head (map cell ss) ≡ h)
+    → All (λ s. slot-at e s ≡ cell-slot (next-of e s) (cell s)) ss → (Chained n e (map cell ss)) × (head (map cell ss) ≡ h)
 linked-chained n e cell own h [] c i r = (tt, sym c)
 linked-chained n e cell own h (s ∷ ss) c i r =
     let rest = linked-chained n e cell own (next-of e s) ss (c .2) (i .1) (r .1) in
-    ((rw (own s) (i .0 .0), rw (own s) (i .0 .1), ap (row-of e) (own s) ∙ r .0 ∙ ap (λ k. cell-row k (cell s)) (sym (rest .1)), rest .0), own s ∙ sym (c .0))
+    ((rw (own s) (i .0 .0), rw (own s) (i .0 .1), ap (slot-at e) (own s) ∙ r .0 ∙ ap (λ k. cell-slot k (cell s)) (sym (rest .1)), rest .0), own s ∙ sym (c .0))
 
 -- Each form is the row of what it reads as.
 module _ (e : List ℕ) (s : ℕ) where
-  rebuilt : (r : Row) → row-of e s .w0 ≡ r .w0 → row-of e s .w1 ≡ r .w1 → row-of e s .w2 ≡ r .w2 → row-of e s .w3 ≡ r .w3 → row-of e s ≡ r
+  rebuilt : (r : Slot) → slot-at e s .link ≡ r .link → span-of e s ≡ r .span → tally-of e s ≡ r .tally → stamp-of e s ≡ r .stamp → slot-at e s ≡ r
   rebuilt r a b c d = rw (a, b, c, d)
 
-  pub free-written : is-free e s ≡ true → row-of e s ≡ cell-row (next-of e s) (free-cell s)
+  pub free-written : is-free e s ≡ true → slot-at e s ≡ cell-slot (next-of e s) (free-cell s)
   free-written h =
-      let abc = and-left (eqb (kind-of e s) 0 && eqb (row-of e s .w1) 0 && eqb (tally-of e s) 0) (eqb (stamp-of e s) 0) h in
-      let ab = and-left (eqb (kind-of e s) 0 && eqb (row-of e s .w1) 0) (eqb (tally-of e s) 0) abc in
-      let k : kind-of e s ≡ 0 = eqb-true (kind-of e s) 0 (and-left (eqb (kind-of e s) 0) (eqb (row-of e s .w1) 0) ab) in
-      rebuilt (cell-row (next-of e s) (free-cell s)) (omega arith)
-      (eqb-true (row-of e s .w1) 0 (and-right (eqb (kind-of e s) 0) (eqb (row-of e s .w1) 0) ab))
-      (eqb-true (tally-of e s) 0 (and-right (eqb (kind-of e s) 0 && eqb (row-of e s .w1) 0) (eqb (tally-of e s) 0) abc))
-      (eqb-true (stamp-of e s) 0 (and-right (eqb (kind-of e s) 0 && eqb (row-of e s .w1) 0 && eqb (tally-of e s) 0) (eqb (stamp-of e s) 0) h))
+      let abc = and-left (eqb (kind-of e s) 0 && eqb (span-of e s) 0 && eqb (tally-of e s) 0) (eqb (stamp-of e s) 0) h in
+      let ab = and-left (eqb (kind-of e s) 0 && eqb (span-of e s) 0) (eqb (tally-of e s) 0) abc in
+      let k : kind-of e s ≡ 0 = eqb-true (kind-of e s) 0 (and-left (eqb (kind-of e s) 0) (eqb (span-of e s) 0) ab) in
+      rebuilt (cell-slot (next-of e s) (free-cell s)) (omega arith)
+      (eqb-true (span-of e s) 0 (and-right (eqb (kind-of e s) 0) (eqb (span-of e s) 0) ab))
+      (eqb-true (tally-of e s) 0 (and-right (eqb (kind-of e s) 0 && eqb (span-of e s) 0) (eqb (tally-of e s) 0) abc))
+      (eqb-true (stamp-of e s) 0 (and-right (eqb (kind-of e s) 0 && eqb (span-of e s) 0 && eqb (tally-of e s) 0) (eqb (stamp-of e s) 0) h))
 
-  pub point-written : is-point e s ≡ true → row-of e s ≡ cell-row (next-of e s) (point-cell (read-point e s))
+  pub point-written : is-point e s ≡ true → slot-at e s ≡ cell-slot (next-of e s) (point-cell (read-point e s))
   point-written h =
       let same : lo-of e s ≡ hi-of e s = eqb-true (lo-of e s) (hi-of e s) (and-left (eqb (lo-of e s) (hi-of e s)) _ h) in
       let kinds = and-right (eqb (lo-of e s) (hi-of e s)) (eqb (kind-of e s) 1 || (eqb (kind-of e s) 2 && eqb (tally-of e s) 0)) h in
       by-cases (eqb (kind-of e s) 1)
       (λ k. let one : kind-of e s ≡ 1 = eqb-true (kind-of e s) 1 k in
-      rebuilt (cell-row (next-of e s) (point-cell (read-point e s))) (rw k (omega arith)) (omega arith) (rw k) refl)
+      rebuilt (cell-slot (next-of e s) (point-cell (read-point e s))) (rw k (omega arith)) (omega arith) (rw k) refl)
       (λ k. let two = or-second (eqb (kind-of e s) 1) (eqb (kind-of e s) 2 && eqb (tally-of e s) 0) kinds k in
       let kind≡ : kind-of e s ≡ 2 = eqb-true (kind-of e s) 2 (and-left (eqb (kind-of e s) 2) (eqb (tally-of e s) 0) two) in
       let tally≡ : tally-of e s ≡ 0 = eqb-true (tally-of e s) 0 (and-right (eqb (kind-of e s) 2) (eqb (tally-of e s) 0) two) in
-      rebuilt (cell-row (next-of e s) (point-cell (read-point e s))) (rw k (omega arith)) (omega arith) (rw k tally≡) refl)
+      rebuilt (cell-slot (next-of e s) (point-cell (read-point e s))) (rw k (omega arith)) (omega arith) (rw k tally≡) refl)
 
-  pub range-written : is-range e s ≡ true → row-of e s ≡ cell-row (next-of e s) (range-cell (read-range e s))
+  pub range-written : is-range e s ≡ true → slot-at e s ≡ cell-slot (next-of e s) (range-cell (read-range e s))
   range-written h =
       let forms = and-right (leb (lo-of e s) (hi-of e s)) (eqb (kind-of e s) 3 && eqb (tally-of e s) 0) h in
       let three : kind-of e s ≡ 3 = eqb-true (kind-of e s) 3 (and-left (eqb (kind-of e s) 3) (eqb (tally-of e s) 0) forms) in
-      rebuilt (cell-row (next-of e s) (range-cell (read-range e s))) (omega arith) (omega arith)
+      rebuilt (cell-slot (next-of e s) (range-cell (read-range e s))) (omega arith) (omega arith)
       (eqb-true (tally-of e s) 0 (and-right (eqb (kind-of e s) 3) (eqb (tally-of e s) 0) forms)) refl
+
+-- The words of slot 0 beside the first free slot and the clock are zero.
+module _ (e : List ℕ) where
+  pub top-written : top-blank e ≡ true → slot-at e 0 ≡ top-slot (first-free e) (clock-of e)
+  top-written h =
+      rebuilt e 0 (top-slot (first-free e) (clock-of e)) refl refl
+      (eqb-true (tally-of e 0) 0 (and-left (eqb (tally-of e 0) 0) (eqb (stamp-of e 0) 0) h))
+      (eqb-true (stamp-of e 0) 0 (and-right (eqb (tally-of e 0) 0) (eqb (stamp-of e 0) 0) h))
+
+  pub top-form : (first clock : ℕ) → slot-at e 0 ≡ top-slot first clock → top-blank e ≡ true
+  top-form first clock h =
+      and-intro (eqb (tally-of e 0) 0) (eqb (stamp-of e 0) 0)
+      (eq-eqb (tally-of e 0) 0 (ap (λ (r : Slot). r .tally) h)) (eq-eqb (stamp-of e 0) 0 (ap (λ (r : Slot). r .stamp) h))

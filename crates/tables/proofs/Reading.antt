@@ -9,9 +9,9 @@ use lib.ListN.{length}
 use borrow.Author.Tests.{ne-eqb}
 use Rattle.lists.specs.All.{All}
 use Rattle.model.specs.Records.{Entry, value, tombstone, Point, Range}
-use Rattle.tables.specs.Words.{Row, row-of, next-of, kind-of, lo-of, hi-of, tally-of, stamp-of}
+use Rattle.tables.specs.Slots.{Slot, slot-at, next-of, kind-of, lo-of, hi-of, tally-of, stamp-of}
 use Rattle.tables.specs.Sound.{chain}
-use Rattle.tables.specs.Placed.{Cell, free-cell, point-cell, range-cell, entry-kind, entry-tally, head, cell-row, read-point, read-range}
+use Rattle.tables.specs.Placed.{Cell, free-cell, point-cell, range-cell, entry-kind, entry-tally, head, read-point, read-range, cell-slot}
 use Rattle.tables.proofs.Cells.{Chained, cell-slots}
 
 pub head-small : (n : ℕ) (e : List ℕ) (cs : List Cell) → Chained n e cs → head cs ≤ n
@@ -20,10 +20,10 @@ head-small n e (c ∷ cs) h = h .1
 
 module _ (n : ℕ) (e : List ℕ) (small : n < 65536) (c : Cell) (cs : List Cell) (h : Chained n e (c ∷ cs)) where
   pub next-at : next-of e (c .slot) ≡ head cs
-  next-at = ap (λ (r : Row). r .w0 % 65536) (h .2) ∙ omega (arith, head-small n e cs (h .3))
+  next-at = ap (λ (r : Slot). r .link % 65536) (h .2) ∙ omega (arith, head-small n e cs (h .3))
 
   pub kind-at : kind-of e (c .slot) ≡ c .kind
-  kind-at = ap (λ (r : Row). r .w0 / 65536) (h .2) ∙ omega (arith, head-small n e cs (h .3))
+  kind-at = ap (λ (r : Slot). r .link / 65536) (h .2) ∙ omega (arith, head-small n e cs (h .3))
 
 -- The chain from a held chain's head is its slots.
 pub chain-reads : (n k : ℕ) (e : List ℕ) (cs : List Cell) → n < 65536 → Chained n e cs → length cs ≤ k → chain k e (head cs) ≡ cell-slots cs
@@ -46,18 +46,18 @@ module _ (n : ℕ) (e : List ℕ) (small : n < 65536) where
   -- A record's own row, read again.
   point-back : (p : Point ℕ ℕ) (cs : List Cell) → p .key ≤ 65535 → Chained n e (point-cell p ∷ cs) → read-point e (p .slot) ≡ p
   point-back p cs k h =
-      let row : row-of e (p .slot) ≡ cell-row (head cs) (point-cell p) = h .2 in
-      let key≡ : lo-of e (p .slot) ≡ p .key = ap (λ (r : Row). r .w1 % 65536) row ∙ omega arith in
-      let tally≡ : tally-of e (p .slot) ≡ entry-tally (p .entry) = ap (λ (r : Row). r .w2) row in
-      let stamp≡ : stamp-of e (p .slot) ≡ p .stamp = ap (λ (r : Row). r .w3) row in
+      let row : slot-at e (p .slot) ≡ cell-slot (head cs) (point-cell p) = h .2 in
+      let key≡ : lo-of e (p .slot) ≡ p .key = ap (λ (r : Slot). r .span % 65536) row ∙ omega arith in
+      let tally≡ : tally-of e (p .slot) ≡ entry-tally (p .entry) = ap (λ (r : Slot). r .tally) row in
+      let stamp≡ : stamp-of e (p .slot) ≡ p .stamp = ap (λ (r : Slot). r .stamp) row in
       rw (key≡, kind-at n e small (point-cell p) cs h, tally≡, stamp≡, entry-back (p .entry))
 
   range-back : (r : Range ℕ) (cs : List Cell) → r .lo ≤ r .hi → r .hi ≤ 65535 → Chained n e (range-cell r ∷ cs) → read-range e (r .slot) ≡ r
   range-back r cs a b h =
-      let row : row-of e (r .slot) ≡ cell-row (head cs) (range-cell r) = h .2 in
-      let lo≡ : lo-of e (r .slot) ≡ r .lo = ap (λ (x : Row). x .w1 % 65536) row ∙ omega arith in
-      let hi≡ : hi-of e (r .slot) ≡ r .hi = ap (λ (x : Row). x .w1 / 65536) row ∙ omega arith in
-      let stamp≡ : stamp-of e (r .slot) ≡ r .stamp = ap (λ (x : Row). x .w3) row in
+      let row : slot-at e (r .slot) ≡ cell-slot (head cs) (range-cell r) = h .2 in
+      let lo≡ : lo-of e (r .slot) ≡ r .lo = ap (λ (x : Slot). x .span % 65536) row ∙ omega arith in
+      let hi≡ : hi-of e (r .slot) ≡ r .hi = ap (λ (x : Slot). x .span / 65536) row ∙ omega arith in
+      let stamp≡ : stamp-of e (r .slot) ≡ r .stamp = ap (λ (x : Slot). x .stamp) row in
       rw (lo≡, hi≡, stamp≡)
 
   pub points-back : (ps : List (Point ℕ ℕ)) → All (λ p. p .key ≤ 65535) ps → Chained n e (map point-cell ps) → map (read-point e) (cell-slots (map point-cell ps)) ≡ ps

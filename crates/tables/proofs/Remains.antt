@@ -10,16 +10,17 @@ use borrow.Author.Tests.{eqb-true, ne-eqb}
 use Rattle.lists.specs.All.{All}
 use Rattle.lists.proofs.Bools.{and-right, or-second}
 use Rattle.lists.proofs.Tests.{all-weaken, all-append}
-use Rattle.tables.specs.Words.{row-of, next-of, kind-of, lo-of, hi-of, tally-of, settings-of}
+use Rattle.tables.specs.Slots.{slot-at, next-of, kind-of, lo-of, hi-of, tally-of, free-slot}
+use Rattle.tables.specs.Rows.{settings-of}
 use Rattle.tables.specs.Sound.{free-chain, point-chain, range-chain, is-free, is-point, is-range, table-refusal}
 use Rattle.tables.proofs.Linked.{free-written}
 use Rattle.tables.proofs.SoundWords.{sound-facts}
 
 module _ (e l : List ℕ) (sound : table-refusal e l ≡ 0) where
-  free-blank : (s : ℕ) → is-free e s ≡ true → row-of e s ≡ record { w0 = next-of e s; w1 = 0; w2 = 0; w3 = 0 }
+  free-blank : (s : ℕ) → is-free e s ≡ true → slot-at e s ≡ free-slot (next-of e s)
   free-blank s f = let only : next-of e s + 65536 * 0 ≡ next-of e s = omega arith in free-written e s f ∙ rw only
 
-  pub free-slots-blank : All (λ s. row-of e s ≡ record { w0 = next-of e s; w1 = 0; w2 = 0; w3 = 0 }) (free-chain e)
+  pub free-slots-blank : All (λ s. slot-at e s ≡ free-slot (next-of e s)) (free-chain e)
   free-slots-blank = all-weaken _ _ free-blank (free-chain e) (sound-facts e l sound .free-forms)
 
   point-blank : (s : ℕ) → is-point e s ≡ true → kind-of e s ≢ 1 → tally-of e s ≡ 0

@@ -7,7 +7,8 @@ use native.Mathlib.Decide.{ℕ-discrete}
 use lib.ListN.{length, length-append}
 use Rattle.lists.specs.All.{All}
 use Rattle.lists.proofs.Tests.{all-left, all-right}
-use Rattle.tables.specs.Words.{slots-of, first-free, settings-of, level-row}
+use Rattle.tables.specs.Slots.{slots-of, first-free}
+use Rattle.tables.specs.Rows.{settings-of, level-row}
 use Rattle.tables.specs.Sound.{chain-from, free-chain, point-chain, range-chain, record-slots}
 use Rattle.tables.proofs.Once.{Inside, once-inside}
 use Rattle.tables.proofs.Linked.{Linked, chain-linked}
@@ -59,8 +60,8 @@ module _ (e l : List ℕ) (f : Sound e l) where
   pub free-ends : ChainSound e (first-free e)
   free-ends = ends (first-free e) (few-left (slots-of e) (free-chain e) (record-slots e l (suc (settings-of l .deepest)) 0) all)
 
-  pub points-end : (i : ℕ) → i ≤ settings-of l .deepest → ChainSound e (level-row l i .w0)
-  points-end i h = ends (level-row l i .w0) (few-left (slots-of e) (point-chain e l i) (range-chain e l i) (level i h))
+  pub points-end : (i : ℕ) → i ≤ settings-of l .deepest → ChainSound e (level-row l i .points)
+  points-end i h = ends (level-row l i .points) (few-left (slots-of e) (point-chain e l i) (range-chain e l i) (level i h))
 
-  pub ranges-end : (i : ℕ) → i ≤ settings-of l .deepest → ChainSound e (level-row l i .w1)
-  ranges-end i h = ends (level-row l i .w1) (few-right (slots-of e) (point-chain e l i) (range-chain e l i) (level i h))
+  pub ranges-end : (i : ℕ) → i ≤ settings-of l .deepest → ChainSound e (level-row l i .ranges)
+  ranges-end i h = ends (level-row l i .ranges) (few-right (slots-of e) (point-chain e l i) (range-chain e l i) (level i h))

@@ -15,31 +15,30 @@ use Rattle.lists.proofs.Bools.{and-left, and-right}
 use Rattle.lists.proofs.Tests.{map-map, every-all, all-left, all-right, all-weaken}
 use Rattle.model.specs.Records.{Level, State, empty}
 use Rattle.model.specs.Merge.{point-slots, range-slots}
-use Rattle.tables.specs.Words.{Fits32, Row, row-of, next-of, slots-of, clock-of, first-free, settings-of, level-row}
-use Rattle.tables.specs.Sound.{chain-from, free-chain, point-chain, range-chain, is-free, level-sound, levels-sound, record-slots, every-slot-once, chains-sound, entries-fit, levels-fit, table-refusal}
-use Rattle.tables.specs.Placed.{Cell, free-cell, point-cell, range-cell, head, cell-row, level-chains, all-chains, row-of-level, row-words, entry-words, level-words, read-point, read-range, read-level, read-levels, read-state}
+use Rattle.tables.specs.Slots.{entry-length, slots-of, slot-at, next-of, top-slot, first-free, clock-of}
+use Rattle.tables.specs.Rows.{level-length, settings-of, Row, level-row}
+use Rattle.tables.specs.Words.{Fits32}
+use Rattle.tables.specs.Sound.{chain-from, free-chain, point-chain, range-chain, is-free, level-sound, levels-sound, record-slots, every-slot-once, chains-sound, entries-fit, levels-fit, table-refusal, top-blank}
+use Rattle.tables.specs.Placed.{Cell, free-cell, point-cell, range-cell, head, level-chains, all-chains, row-of-level, entry-words, level-words, read-point, read-range, read-level, read-levels, read-state, cell-slot, top-of}
 use Rattle.tables.specs.Formed.{LevelFormed, levels-slots, Formed}
-use Rattle.tables.proofs.Rows.{rows-equal}
+use Rattle.tables.proofs.Rows.{rows-equal, length-level-words, settings-back, level-row-at}
 use Rattle.tables.proofs.Cells.{Chained, AllChained, Holds}
 use Rattle.tables.proofs.Once.{OnceFacts, once-facts, facts-once, Inside, once-inside}
-use Rattle.tables.proofs.Lay.{top-row}
-use Rattle.tables.proofs.LevelRows.{length-level-words, level-row-at}
 use Rattle.tables.proofs.Back.{formed-words}
-use Rattle.tables.proofs.Linked.{chain-linked, linked-chained, free-written, point-written, range-written}
+use Rattle.tables.proofs.Linked.{chain-linked, linked-chained, free-written, point-written, range-written, top-written}
 use Rattle.tables.proofs.LevelSound.{LevelSound, level-facts, level-reads-formed}
 
 -- What refusal 0 says, sentence by sentence.
 pub record Sound (e l : List ℕ) : Type 0 where
-  pub length-entries : length e ≡ 4 * (slots-of e + 1)
+  pub length-entries : length e ≡ entry-length (slots-of e)
   pub few : 1 ≤ slots-of e
   pub many : slots-of e ≤ 65535
-  pub length-levels : length l ≡ 4 * (settings-of l .deepest + 2)
+  pub length-levels : length l ≡ level-length (settings-of l .deepest)
   pub settings-ok : allowed (settings-of l) ≡ true
-  pub third : row-of e 0 .w2 ≡ 0
-  pub fourth : row-of e 0 .w3 ≡ 0
+  pub top : slot-at e 0 ≡ top-slot (first-free e) (clock-of e)
   pub free-forms : All (λ s. is-free e s ≡ true) (free-chain e)
   pub levels : (i : ℕ) → i ≤ settings-of l .deepest → LevelSound e l i
-  pub deepest-owes-nothing : level-row l (settings-of l .deepest) .w3 ≡ 0
+  pub deepest-owes-nothing : level-row l (settings-of l .deepest) .owed ≡ 0
   pub once : OnceFacts (slots-of e) (free-chain e ++ record-slots e l (suc (settings-of l .deepest)) 0)
 
 levels-at : (e l : List ℕ) (j i m : ℕ) → levels-sound e l j i ≡ true → i ≤ m → m < i + j → level-sound e l m ≡ true
@@ -64,29 +63,27 @@ sound-facts e l h =
     let n : ℕ = slots-of e in
     let d : ℕ = settings-of l .deepest in
     let parts = refusal-parts (entries-fit e) (levels-fit l) (chains-sound e l) h in
-    let b1 : Bool = eqb (row-of e 0 .w2) 0 in
-    let b2 : Bool = eqb (row-of e 0 .w3) 0 in
+    let b2 : Bool = top-blank e in
     let b3 : Bool = every (is-free e) (free-chain e) in
     let b4 : Bool = levels-sound e l (suc d) 0 in
-    let b5 : Bool = eqb (level-row l d .w3) 0 in
+    let b5 : Bool = eqb (level-row l d .owed) 0 in
     let b6 : Bool = every-slot-once n (free-chain e ++ record-slots e l (suc d) 0) in
-    let c5 = and-left (b1 && b2 && b3 && b4 && b5) b6 (parts .2) in
-    let c4 = and-left (b1 && b2 && b3 && b4) b5 c5 in
-    let c3 = and-left (b1 && b2 && b3) b4 c4 in
-    let c2 = and-left (b1 && b2) b3 c3 in
-    let sizes = and-right (eqb (length e) (4 * (n + 1))) (within 1 n 65535) (parts .0) in
+    let c5 = and-left (b2 && b3 && b4 && b5) b6 (parts .2) in
+    let c4 = and-left (b2 && b3 && b4) b5 c5 in
+    let c3 = and-left (b2 && b3) b4 c4 in
+    let c2 = and-left b2 b3 c3 in
+    let sizes = and-right (eqb (length e) (entry-length n)) (within 1 n 65535) (parts .0) in
     record {
-      length-entries = eqb-true (length e) (4 * (n + 1)) (and-left (eqb (length e) (4 * (n + 1))) (within 1 n 65535) (parts .0));
+      length-entries = eqb-true (length e) (entry-length n) (and-left (eqb (length e) (entry-length n)) (within 1 n 65535) (parts .0));
       few = leb-true 1 n (and-left (leb 1 n) (leb n 65535) sizes);
       many = leb-true n 65535 (and-right (leb 1 n) (leb n 65535) sizes);
-      length-levels = eqb-true (length l) (4 * (d + 2)) (and-left (eqb (length l) (4 * (d + 2))) (allowed (settings-of l)) (parts .1));
-      settings-ok = and-right (eqb (length l) (4 * (d + 2))) (allowed (settings-of l)) (parts .1);
-      third = eqb-true (row-of e 0 .w2) 0 (and-left b1 b2 c2);
-      fourth = eqb-true (row-of e 0 .w3) 0 (and-right b1 b2 c2);
-      free-forms = every-all (is-free e) (free-chain e) (and-right (b1 && b2) b3 c3);
-      levels = λ i k. level-facts e l i (levels-at e l (suc d) 0 i (and-right (b1 && b2 && b3) b4 c4) (omega arith) (omega arith));
-      deepest-owes-nothing = eqb-true (level-row l d .w3) 0 (and-right (b1 && b2 && b3 && b4) b5 c5);
-      once = once-facts n (free-chain e ++ record-slots e l (suc d) 0) (and-right (b1 && b2 && b3 && b4 && b5) b6 (parts .2));
+      length-levels = eqb-true (length l) (level-length d) (and-left (eqb (length l) (level-length d)) (allowed (settings-of l)) (parts .1));
+      settings-ok = and-right (eqb (length l) (level-length d)) (allowed (settings-of l)) (parts .1);
+      top = top-written e c2;
+      free-forms = every-all (is-free e) (free-chain e) (and-right b2 b3 c3);
+      levels = λ i k. level-facts e l i (levels-at e l (suc d) 0 i (and-right (b2 && b3) b4 c4) (omega arith) (omega arith));
+      deepest-owes-nothing = eqb-true (level-row l d .owed) 0 (and-right (b2 && b3 && b4) b5 c5);
+      once = once-facts n (free-chain e ++ record-slots e l (suc d) 0) (and-right (b2 && b3 && b4 && b5) b6 (parts .2));
     }
 
 -- The slots of what is read are the slots of the chains.
@@ -155,13 +152,13 @@ module _ (e l : List ℕ) (w : Fits32 e) (f : Sound e l) where
     levels-ok = levels-formed (suc (settings-of l .deepest)) 0 (omega arith);
     deepest-owes-nothing =
         ap (λ (v : Level ℕ ℕ). v .owed) (read-levels-at e l (suc (settings-of l .deepest)) 0 (settings-of l .deepest) (omega arith))
-        ∙ ap (λ k. level-row l k .w3) (omega arith) ∙ f .deepest-owes-nothing;
+        ∙ ap (λ k. level-row l k .owed) (omega arith) ∙ f .deepest-owes-nothing;
     slots-once = rw (read-slots e l (suc (settings-of l .deepest)) 0) (facts-once (slots-of e) (free-chain e ++ record-slots e l (suc (settings-of l .deepest)) 0) (f .once));
   }
 
   -- A chain of the table, with the cells that it reads as.
   chain-held : (cell : ℕ → Cell) → ((s : ℕ) → cell s .slot ≡ s) → (h : ℕ) → length (chain-from e h) ≤ n → All (Inside n) (chain-from e h)
-      → All (λ s. row-of e s ≡ cell-row (next-of e s) (cell s)) (chain-from e h) → (Chained n e (map cell (chain-from e h))) × (head (map cell (chain-from e h)) ≡ h)
+      → All (λ s. slot-at e s ≡ cell-slot (next-of e s) (cell s)) (chain-from e h) → (Chained n e (map cell (chain-from e h))) × (head (map cell (chain-from e h)) ≡ h)
   unfolding n
   chain-held cell own h short i r = linked-chained (slots-of e) e cell own h (chain-from e h) (chain-linked (length e) e h (omega (arith, f .length-entries))) i r
 
@@ -170,16 +167,16 @@ module _ (e l : List ℕ) (w : Fits32 e) (f : Sound e l) where
       (all-weaken _ _ (λ s. free-written e s) (free-chain e) (f .free-forms))
 
   points-held : (i : ℕ) → i ≤ settings-of l .deepest → length (point-chain e l i) ≤ n → All (Inside n) (point-chain e l i)
-      → (Chained n e (map point-cell (map (read-point e) (point-chain e l i)))) × (head (map point-cell (map (read-point e) (point-chain e l i))) ≡ level-row l i .w0)
+      → (Chained n e (map point-cell (map (read-point e) (point-chain e l i)))) × (head (map point-cell (map (read-point e) (point-chain e l i))) ≡ level-row l i .points)
   points-held i k short a =
       rw (map-map (read-point e) point-cell (point-chain e l i))
-      (chain-held (λ s. point-cell (read-point e s)) (λ s. refl) (level-row l i .w0) short a (all-weaken _ _ (λ s. point-written e s) (point-chain e l i) (f .levels i k .point-forms)))
+      (chain-held (λ s. point-cell (read-point e s)) (λ s. refl) (level-row l i .points) short a (all-weaken _ _ (λ s. point-written e s) (point-chain e l i) (f .levels i k .point-forms)))
 
   ranges-held : (i : ℕ) → i ≤ settings-of l .deepest → length (range-chain e l i) ≤ n → All (Inside n) (range-chain e l i)
-      → (Chained n e (map range-cell (map (read-range e) (range-chain e l i)))) × (head (map range-cell (map (read-range e) (range-chain e l i))) ≡ level-row l i .w1)
+      → (Chained n e (map range-cell (map (read-range e) (range-chain e l i)))) × (head (map range-cell (map (read-range e) (range-chain e l i))) ≡ level-row l i .ranges)
   ranges-held i k short a =
       rw (map-map (read-range e) range-cell (range-chain e l i))
-      (chain-held (λ s. range-cell (read-range e s)) (λ s. refl) (level-row l i .w1) short a (all-weaken _ _ (λ s. range-written e s) (range-chain e l i) (f .levels i k .range-forms)))
+      (chain-held (λ s. range-cell (read-range e s)) (λ s. refl) (level-row l i .ranges) short a (all-weaken _ _ (λ s. range-written e s) (range-chain e l i) (f .levels i k .range-forms)))
 
   -- A level's two chains, and its row.
   record LevelHeld (i : ℕ) : Type 0 where
@@ -200,7 +197,7 @@ module _ (e l : List ℕ) (w : Fits32 e) (f : Sound e l) where
             (f .levels i k .number ∙ omega (arith, length-append ps rs, length-map ps (read-point e), length-map rs (read-range e))) refl;
       }
     where
-      row-is : (x y : Row) → x .w0 ≡ y .w0 → x .w1 ≡ y .w1 → x .w2 ≡ y .w2 → x .w3 ≡ y .w3 → x ≡ y
+      row-is : (x y : Row) → x .points ≡ y .points → x .ranges ≡ y .ranges → x .held ≡ y .held → x .owed ≡ y .owed → x ≡ y
       row-is x y a b c d = rw (a, b, c, d)
 
   all-held : (j i : ℕ) → i + j ≤ suc (settings-of l .deepest) → length (record-slots e l j i) ≤ n → All (Inside n) (record-slots e l j i)
@@ -223,11 +220,11 @@ module _ (e l : List ℕ) (w : Fits32 e) (f : Sound e l) where
   unfolding deepest
   held-here = all-held (suc (settings-of l .deepest)) 0 (omega arith) (omega (arith, total)) (all-right (Inside n) (free-chain e) (record-slots e l (suc (settings-of l .deepest)) 0) inside)
 
-  pub sound-holds : Holds (slots-of e) (top-row (read-state e l)) (all-chains (read-state e l)) e
+  pub sound-holds : Holds (slots-of e) (top-of (read-state e l)) (all-chains (read-state e l)) e
   unfolding read-state n
   sound-holds = record {
     room = f .length-entries;
-    first = rw (free-held .1, f .third, f .fourth);
+    first = rw (free-held .1) (f .top);
     each = (free-held .0, held-here .0);
   }
 
@@ -238,12 +235,11 @@ module _ (e l : List ℕ) (w : Fits32 e) (f : Sound e l) where
   pub sound-levels : l ≡ level-words (read-state e l)
   sound-levels =
       let p : State ℕ ℕ = read-state e l in
-      rows-equal (settings-of l .deepest + 2) l (level-words p) (f .length-levels) (length-level-words p ∙ omega (arith, length-state-levels e l)) at
+      rows-equal (settings-of l .deepest + 1) l (level-words p) (f .length-levels ∙ omega arith) (length-level-words p ∙ omega (arith, length-state-levels e l))
+      (unfold read-state in sym (settings-back (read-state e l))) at
     where
-      at : (s : ℕ) → s < settings-of l .deepest + 2 → row-of l s ≡ row-of (level-words (read-state e l)) s
-      at zero b = unfold read-state level-words row-words in refl
-      at (suc s) b =
+      at : (i : ℕ) → i < settings-of l .deepest + 1 → level-row l i ≡ level-row (level-words (read-state e l)) i
+      at i b =
           let p : State ℕ ℕ = read-state e l in
-          let one : suc s ≡ s + 1 = omega arith in
-          ap (row-of l) one ∙ held-here .1 s (omega arith) (omega arith) ∙ ap row-of-level (sym (read-state-level e l s (omega arith)))
-          ∙ sym (level-row-at p s (omega (arith, length-state-levels e l))) ∙ ap (row-of (level-words p)) (sym one)
+          held-here .1 i (omega arith) (omega arith) ∙ ap row-of-level (sym (read-state-level e l i (omega arith)))
+          ∙ sym (level-row-at p i (omega (arith, length-state-levels e l)))

@@ -11,63 +11,63 @@ use Rattle.lists.proofs.Bools.{and-left, and-right, and-intro, or-left, or-righ
 use Rattle.lists.proofs.Tests.{all-weaken}
 use Rattle.model.specs.Records.{Entry, value, tombstone, Point, Range}
 use Rattle.model.specs.Merge.{point-before, range-before}
-use Rattle.tables.specs.Words.{Row, row-of, kind-of, lo-of, hi-of, tally-of, stamp-of, clock-of}
+use Rattle.tables.specs.Slots.{Slot, slot-at, kind-of, span-of, lo-of, hi-of, tally-of, stamp-of, clock-of}
 use Rattle.tables.specs.Sound.{is-free, is-point, is-range, order-key, ascend, is-stamped, owed-before}
-use Rattle.tables.specs.Placed.{Cell, free-cell, entry-kind, entry-tally, point-cell, range-cell, head, cell-row}
+use Rattle.tables.specs.Placed.{Cell, free-cell, entry-kind, entry-tally, point-cell, range-cell, head, cell-slot}
 use Rattle.tables.proofs.Cells.{Chained, cell-slots}
 use Rattle.tables.proofs.Reading.{head-small}
 
 -- What a row of a cell reads as.
-module _ (e : List ℕ) (n next : ℕ) (c : Cell) (small : n < 65536) (below : next ≤ n) (row : row-of e (c .slot) ≡ cell-row next c) where
+module _ (e : List ℕ) (n next : ℕ) (c : Cell) (small : n < 65536) (below : next ≤ n) (row : slot-at e (c .slot) ≡ cell-slot next c) where
   cell-kind : kind-of e (c .slot) ≡ c .kind
-  cell-kind = ap (λ (r : Row). r .w0 / 65536) row ∙ omega arith
+  cell-kind = ap (λ (r : Slot). r .link / 65536) row ∙ omega arith
 
-  cell-span : row-of e (c .slot) .w1 ≡ c .span
-  cell-span = ap (λ (r : Row). r .w1) row
+  cell-span : span-of e (c .slot) ≡ c .span
+  cell-span = ap (λ (r : Slot). r .span) row
 
   cell-tally : tally-of e (c .slot) ≡ c .tally
-  cell-tally = ap (λ (r : Row). r .w2) row
+  cell-tally = ap (λ (r : Slot). r .tally) row
 
   cell-stamp : stamp-of e (c .slot) ≡ c .stamp
-  cell-stamp = ap (λ (r : Row). r .w3) row
+  cell-stamp = ap (λ (r : Slot). r .stamp) row
 
 module _ (n : ℕ) (e : List ℕ) (small : n < 65536) where
   -- What holds of every cell's row holds along the chain.
   pub chained-all : {X : Type 0} (cell : X → Cell) (P : ℕ → Type 0) (Q : X → Type 0)
-      → ((x : X) (next : ℕ) → next ≤ n → Q x → row-of e (cell x .slot) ≡ cell-row next (cell x) → P (cell x .slot))
+      → ((x : X) (next : ℕ) → next ≤ n → Q x → slot-at e (cell x .slot) ≡ cell-slot next (cell x) → P (cell x .slot))
       → (xs : List X) → All Q xs → Chained n e (map cell xs) → All P (cell-slots (map cell xs))
   chained-all cell P Q h [] q c = tt
   chained-all cell P Q h (x ∷ xs) q c = (h x (head (map cell xs)) (head-small n e (map cell xs) (c .3)) (q .0) (c .2), chained-all cell P Q h xs (q .1) (c .3))
 
-  pub free-form : (s next : ℕ) → next ≤ n → row-of e s ≡ cell-row next (free-cell s) → is-free e s ≡ true
+  pub free-form : (s next : ℕ) → next ≤ n → slot-at e s ≡ cell-slot next (free-cell s) → is-free e s ≡ true
   free-form s next b row =
       rw (
         eq-eqb (kind-of e s) 0 (cell-kind e n next (free-cell s) small b row),
-        eq-eqb (row-of e s .w1) 0 (cell-span e n next (free-cell s) small b row),
+        eq-eqb (span-of e s) 0 (cell-span e n next (free-cell s) small b row),
         eq-eqb (tally-of e s) 0 (cell-tally e n next (free-cell s) small b row),
         eq-eqb (stamp-of e s) 0 (cell-stamp e n next (free-cell s) small b row),
       )
 
-  pub point-form : (p : Point ℕ ℕ) (next : ℕ) → next ≤ n → p .key ≤ 65535 → row-of e (p .slot) ≡ cell-row next (point-cell p) → is-point e (p .slot) ≡ true
+  pub point-form : (p : Point ℕ ℕ) (next : ℕ) → next ≤ n → p .key ≤ 65535 → slot-at e (p .slot) ≡ cell-slot next (point-cell p) → is-point e (p .slot) ≡ true
   point-form p next b k row =
-      let w1≡ : row-of e (p .slot) .w1 ≡ p .key + 65536 * p .key = cell-span e n next (point-cell p) small b row in
+      let w1≡ : span-of e (p .slot) ≡ p .key + 65536 * p .key = cell-span e n next (point-cell p) small b row in
       and-intro (eqb (lo-of e (p .slot)) (hi-of e (p .slot))) _ (eq-eqb (lo-of e (p .slot)) (hi-of e (p .slot)) (omega arith)) (kinds (p .entry) (cell-kind e n next (point-cell p) small b row) (cell-tally e n next (point-cell p) small b row))
     where
       kinds : (x : Entry ℕ) → kind-of e (p .slot) ≡ entry-kind x → tally-of e (p .slot) ≡ entry-tally x → eqb (kind-of e (p .slot)) 1 || (eqb (kind-of e (p .slot)) 2 && eqb (tally-of e (p .slot)) 0) ≡ true
       kinds (value a) q t = rw q
       kinds tombstone q t = rw (q, t)
 
-  pub range-form : (r : Range ℕ) (next : ℕ) → next ≤ n → (r .lo ≤ r .hi) × (r .hi ≤ 65535) → row-of e (r .slot) ≡ cell-row next (range-cell r) → is-range e (r .slot) ≡ true
+  pub range-form : (r : Range ℕ) (next : ℕ) → next ≤ n → (r .lo ≤ r .hi) × (r .hi ≤ 65535) → slot-at e (r .slot) ≡ cell-slot next (range-cell r) → is-range e (r .slot) ≡ true
   range-form r next b k row =
-      let w1≡ : row-of e (r .slot) .w1 ≡ r .lo + 65536 * r .hi = cell-span e n next (range-cell r) small b row in
+      let w1≡ : span-of e (r .slot) ≡ r .lo + 65536 * r .hi = cell-span e n next (range-cell r) small b row in
       rw (le-leb (lo-of e (r .slot)) (hi-of e (r .slot)) (omega (arith, k .0, k .1)), cell-kind e n next (range-cell r) small b row, cell-tally e n next (range-cell r) small b row)
 
-  pub stamp-form : (c : Cell) (next : ℕ) → next ≤ n → (1 ≤ c .stamp) × (c .stamp ≤ clock-of e) → row-of e (c .slot) ≡ cell-row next c → is-stamped e (c .slot) ≡ true
+  pub stamp-form : (c : Cell) (next : ℕ) → next ≤ n → (1 ≤ c .stamp) × (c .stamp ≤ clock-of e) → slot-at e (c .slot) ≡ cell-slot next c → is-stamped e (c .slot) ≡ true
   stamp-form c next b k row =
       let s≡ : stamp-of e (c .slot) ≡ c .stamp = cell-stamp e n next c small b row in
       and-intro (leb 1 (stamp-of e (c .slot))) (leb (stamp-of e (c .slot)) (clock-of e)) (le-leb 1 (stamp-of e (c .slot)) (omega (arith, k .0))) (le-leb (stamp-of e (c .slot)) (clock-of e) (omega (arith, k .1)))
 
-  pub owed-form : (c : Cell) (owed next : ℕ) → next ≤ n → (eqb (c .kind) 1 ≡ false → (1 ≤ owed) × (owed ≤ c .stamp)) → row-of e (c .slot) ≡ cell-row next c → owed-before e owed (c .slot) ≡ true
+  pub owed-form : (c : Cell) (owed next : ℕ) → next ≤ n → (eqb (c .kind) 1 ≡ false → (1 ≤ owed) × (owed ≤ c .stamp)) → slot-at e (c .slot) ≡ cell-slot next c → owed-before e owed (c .slot) ≡ true
   owed-form c owed next b k row =
       let k≡ : kind-of e (c .slot) ≡ c .kind = cell-kind e n next c small b row in
       let s≡ : stamp-of e (c .slot) ≡ c .stamp = cell-stamp e n next c small b row in
@@ -76,11 +76,11 @@ module _ (n : ℕ) (e : List ℕ) (small : n < 65536) where
       (λ q. or-right (eqb (kind-of e (c .slot)) 1) _ (and-intro (not (eqb owed 0)) (leb owed (stamp-of e (c .slot))) (ap not (ne-eqb owed 0 (omega (arith, k q .0)))) (le-leb owed (stamp-of e (c .slot)) (omega (arith, k q .1)))))
 
   -- The orders, by key.
-  point-key : (p : Point ℕ ℕ) (next : ℕ) → next ≤ n → p .key ≤ 65535 → row-of e (p .slot) ≡ cell-row next (point-cell p) → order-key e (p .slot) ≡ p .key * 65536 + p .key
-  point-key p next b k row = let w1≡ : row-of e (p .slot) .w1 ≡ p .key + 65536 * p .key = cell-span e n next (point-cell p) small b row in omega arith
+  point-key : (p : Point ℕ ℕ) (next : ℕ) → next ≤ n → p .key ≤ 65535 → slot-at e (p .slot) ≡ cell-slot next (point-cell p) → order-key e (p .slot) ≡ p .key * 65536 + p .key
+  point-key p next b k row = let w1≡ : span-of e (p .slot) ≡ p .key + 65536 * p .key = cell-span e n next (point-cell p) small b row in omega arith
 
-  range-key : (r : Range ℕ) (next : ℕ) → next ≤ n → (r .lo ≤ r .hi) × (r .hi ≤ 65535) → row-of e (r .slot) ≡ cell-row next (range-cell r) → order-key e (r .slot) ≡ r .lo * 65536 + r .hi
-  range-key r next b k row = let w1≡ : row-of e (r .slot) .w1 ≡ r .lo + 65536 * r .hi = cell-span e n next (range-cell r) small b row in omega (arith, k .0, k .1)
+  range-key : (r : Range ℕ) (next : ℕ) → next ≤ n → (r .lo ≤ r .hi) × (r .hi ≤ 65535) → slot-at e (r .slot) ≡ cell-slot next (range-cell r) → order-key e (r .slot) ≡ r .lo * 65536 + r .hi
+  range-key r next b k row = let w1≡ : span-of e (r .slot) ≡ r .lo + 65536 * r .hi = cell-span e n next (range-cell r) small b row in omega (arith, k .0, k .1)
 
   pub points-order : (ps : List (Point ℕ ℕ)) (least : ℕ) → All (λ p. p .key ≤ 65535) ps → Ascending point-before ps → All (λ p. least ≤ p .key * 65536 + p .key) ps → Chained n e (map point-cell ps) → ascend e least (cell-slots (map point-cell ps)) ≡ true
   unfolding ascend

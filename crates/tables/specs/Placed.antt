@@ -1,11 +1,12 @@
 -- A state with slots, the placed form of the model's: what tables read as, and what such a state writes into them.
 use mathlib.Core.Bool.{cond}
 use mathlib.Core.List.{List, [], _∷_, map}
-use Prim.Native.Nat.{ℕ, zero, suc, _+_, _*_}
+use Prim.Native.Nat.{ℕ, zero, suc}
 use lib.Dec.{eqb}
 use lib.ListN.{replicate}
 use Rattle.model.specs.Records.{Entry, value, tombstone, Point, Range, Level, State, held}
-use Rattle.tables.specs.Words.{Row, set-row, kind-of, lo-of, hi-of, tally-of, stamp-of, clock-of, settings-of, level-row}
+use Rattle.tables.specs.Slots.{entry-length, Slot, set-slot, link-to, kind-of, span-from, lo-of, hi-of, tally-of, stamp-of, top-slot, clock-of}
+use Rattle.tables.specs.Rows.{settings-of, Row, level-row, level-table}
 use Rattle.tables.specs.Sound.{free-chain, point-chain, range-chain}
 
 -- What the tables say, read along the chains.
@@ -24,7 +25,7 @@ abbrev pub read-level : List ℕ → List ℕ → ℕ → Level ℕ ℕ
 read-level e l i = record {
   points = map (read-point e) (point-chain e l i);
   ranges = map (read-range e) (range-chain e l i);
-  owed = level-row l i .w3;
+  owed = level-row l i .owed;
 }
 
 unfoldable pub read-levels : List ℕ → List ℕ → ℕ → ℕ → List (Level ℕ ℕ)
@@ -39,7 +40,7 @@ read-state e l = record {
   levels = read-levels e l (suc (settings-of l .deepest)) 0;
 }
 
--- What a state writes: each record's slot, and the words of its row but for the next slot.
+-- What a state writes: each record's slot, and its words but for the next slot.
 pub record Cell : Type 0 where
   pub slot : ℕ
   pub kind : ℕ
@@ -62,25 +63,25 @@ abbrev pub point-cell : Point ℕ ℕ → Cell
 point-cell p = record {
   slot = p .slot;
   kind = entry-kind (p .entry);
-  span = p .key + 65536 * p .key;
+  span = span-from (p .key) (p .key);
   tally = entry-tally (p .entry);
   stamp = p .stamp;
 }
 
 abbrev pub range-cell : Range ℕ → Cell
-range-cell r = record { slot = r .slot; kind = 3; span = r .lo + 65536 * r .hi; tally = 0; stamp = r .stamp }
+range-cell r = record { slot = r .slot; kind = 3; span = span-from (r .lo) (r .hi); tally = 0; stamp = r .stamp }
 
 abbrev pub head : List Cell → ℕ
 head [] = 0
 head (c ∷ cs) = c .slot
 
-abbrev pub cell-row : ℕ → Cell → Row
-cell-row next c = record { w0 = next + 65536 * c .kind; w1 = c .span; w2 = c .tally; w3 = c .stamp }
+abbrev pub cell-slot : ℕ → Cell → Slot
+cell-slot next c = record { link = link-to next (c .kind); span = c .span; tally = c .tally; stamp = c .stamp }
 
 -- A chain's cells, written over a table.
 unfoldable pub lay : List ℕ → List Cell → List ℕ
 lay e [] = e
-lay e (c ∷ cs) = set-row (lay e cs) (c .slot) (cell-row (head cs) c)
+lay e (c ∷ cs) = set-slot (lay e cs) (c .slot) (cell-slot (head cs) c)
 
 unfoldable pub lay-all : List ℕ → List (List Cell) → List ℕ
 lay-all e [] = e
@@ -94,19 +95,15 @@ level-chains (l ∷ ls) = map point-cell (l .points) ∷ map range-cell (l .rang
 abbrev pub all-chains : State ℕ ℕ → List (List Cell)
 all-chains p = map free-cell (p .free) ∷ level-chains (p .levels)
 
--- The entry table of n slots, and the level table.
-unfoldable pub entry-words : ℕ → State ℕ ℕ → List ℕ
-entry-words n p =
-    set-row (lay-all (replicate (4 * (n + 1)) 0) (all-chains p)) 0
-    (record { w0 = head (map free-cell (p .free)); w1 = p .clock; w2 = 0; w3 = 0 })
+-- Slot 0 of a state, the entry table of n slots, and the level table.
+abbrev pub top-of : State ℕ ℕ → Slot
+top-of p = top-slot (head (map free-cell (p .free))) (p .clock)
 
-unfoldable pub row-words : List Row → List ℕ
-row-words [] = []
-row-words (r ∷ rs) = r .w0 ∷ r .w1 ∷ r .w2 ∷ r .w3 ∷ row-words rs
+unfoldable pub entry-words : ℕ → State ℕ ℕ → List ℕ
+entry-words n p = set-slot (lay-all (replicate (entry-length n) 0) (all-chains p)) 0 (top-of p)
 
 abbrev pub row-of-level : Level ℕ ℕ → Row
-row-of-level l = record { w0 = head (map point-cell (l .points)); w1 = head (map range-cell (l .ranges)); w2 = held l; w3 = l .owed }
+row-of-level l = record { points = head (map point-cell (l .points)); ranges = head (map range-cell (l .ranges)); held = held l; owed = l .owed }
 
 unfoldable pub level-words : State ℕ ℕ → List ℕ
-level-words p =
-    row-words (record { w0 = p .settings .deepest; w1 = p .settings .ratio; w2 = p .settings .buffer; w3 = p .settings .term } ∷ map row-of-level (p .levels))
+level-words p = level-table (p .settings) (map row-of-level (p .levels))

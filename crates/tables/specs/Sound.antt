@@ -6,7 +6,8 @@ use lib.Dec.{leb, eqb}
 use lib.ListN.{length}
 use Rattle.settings.specs.Limits.{within, allowed}
 use Rattle.lists.specs.Lists.{none, every, count}
-use Rattle.tables.specs.Words.{row-of, next-of, kind-of, lo-of, hi-of, tally-of, stamp-of, first-free, clock-of, slots-of, settings-of, level-row}
+use Rattle.tables.specs.Slots.{entry-length, slots-of, slot-at, next-of, kind-of, span-of, lo-of, hi-of, tally-of, stamp-of, first-free, clock-of}
+use Rattle.tables.specs.Rows.{level-length, settings-of, level-row}
 
 -- "Records are chained by the next slot, and zero ends the chain": the slots of a chain, k of them at most.
 unfoldable pub chain : ℕ → List ℕ → ℕ → List ℕ
@@ -21,14 +22,14 @@ abbrev pub free-chain : List ℕ → List ℕ
 free-chain e = chain-from e (first-free e)
 
 abbrev pub point-chain : List ℕ → List ℕ → ℕ → List ℕ
-point-chain e l i = chain-from e (level-row l i .w0)
+point-chain e l i = chain-from e (level-row l i .points)
 
 abbrev pub range-chain : List ℕ → List ℕ → ℕ → List ℕ
-range-chain e l i = chain-from e (level-row l i .w1)
+range-chain e l i = chain-from e (level-row l i .ranges)
 
 -- "A free slot is zero but for its next."
 abbrev pub is-free : List ℕ → ℕ → Bool
-is-free e s = eqb (kind-of e s) 0 && eqb (row-of e s .w1) 0 && eqb (tally-of e s) 0 && eqb (stamp-of e s) 0
+is-free e s = eqb (kind-of e s) 0 && eqb (span-of e s) 0 && eqb (tally-of e s) 0 && eqb (stamp-of e s) 0
 
 -- "Each chain has only its kinds, and the forms above": "lo = hi for kinds 1 and 2", tally "0 for kinds 2 and 3".
 abbrev pub is-point : List ℕ → ℕ → Bool
@@ -60,12 +61,12 @@ level-sound e l i =
     let points = point-chain e l i in
     let ranges = range-chain e l i in
     let records = points ++ ranges in
-    let owed = level-row l i .w3 in
+    let owed = level-row l i .owed in
     every (is-point e) points && ascend e 0 points
     && (every (is-range e) ranges && ascend e 0 ranges)
     && every (is-stamped e) records
     && every (owed-before e owed) records
-    && eqb (level-row l i .w2) (length records)
+    && eqb (level-row l i .held) (length records)
     && leb owed (clock-of e)
     && (not (none records) || eqb owed 0)
 
@@ -86,23 +87,27 @@ once-each (suc n) ss = eqb (count (eqb (suc n)) ss) 1 && once-each n ss
 abbrev pub every-slot-once : ℕ → List ℕ → Bool
 every-slot-once n ss = eqb (length ss) n && once-each n ss
 
+-- "Slot 0 has the first free slot, the last accepted clock (0 when fresh), 0, 0."
+abbrev pub top-blank : List ℕ → Bool
+top-blank e = eqb (slot-at e 0 .tally) 0 && eqb (slot-at e 0 .stamp) 0
+
 -- Refusal 3: "tables not sound". "Level L has puts only, owed 0": with owed 0 it has no delete.
 unfoldable pub chains-sound : List ℕ → List ℕ → Bool
 chains-sound e l =
     let deepest = settings-of l .deepest in
-    eqb (row-of e 0 .w2) 0 && eqb (row-of e 0 .w3) 0
+    top-blank e
     && every (is-free e) (free-chain e)
     && levels-sound e l (suc deepest) 0
-    && eqb (level-row l deepest .w3) 0
+    && eqb (level-row l deepest .owed) 0
     && every-slot-once (slots-of e) (free-chain e ++ record-slots e l (suc deepest) 0)
 
 -- Refusal 1: "not 4 × (N + 1) for an allowed N", which is 1 to 65,535.
 unfoldable pub entries-fit : List ℕ → Bool
-entries-fit e = eqb (length e) (4 * (slots-of e + 1)) && within 1 (slots-of e) 65535
+entries-fit e = eqb (length e) (entry-length (slots-of e)) && within 1 (slots-of e) 65535
 
 -- Refusal 2: "not 4 × (L + 2) words, or first row out of range".
 unfoldable pub levels-fit : List ℕ → Bool
-levels-fit l = eqb (length l) (4 * (settings-of l .deepest + 2)) && allowed (settings-of l)
+levels-fit l = eqb (length l) (level-length (settings-of l .deepest)) && allowed (settings-of l)
 
 -- The refusal that the tables meet, or 0.
 unfoldable pub table-refusal : List ℕ → List ℕ → ℕ

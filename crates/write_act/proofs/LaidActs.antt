@@ -15,7 +15,7 @@ use Rattle.model.specs.Records.{Point, State, empty, level, stored}
 use Rattle.model.specs.Merge.{point-goes, point-slots, release}
 use Rattle.model.specs.Steps.{Write, put, delete, delete-range, unplaced, overwrite, set-points, wipe, act-deepest}
 use Rattle.model.specs.Calls.{timed}
-use Rattle.tables.specs.Words.{Row, set-row}
+use Rattle.tables.specs.Rows.{settings-of, Row, set-row}
 use Rattle.tables.specs.Placed.{Cell, free-cell, point-cell, range-cell, head, level-chains, level-words, row-of-level}
 use Rattle.tables.specs.Formed.{Formed}
 use Rattle.tables.proofs.Cells.{holds-one}
@@ -30,7 +30,7 @@ use Rattle.chain_sieve.specs.declared.Doomed.the-variants as which
 use Rattle.merge_join.specs.Joining.{level-of}
 use Rattle.table_levels.specs.declared.Level.{Level}
 use Rattle.merge_levels.specs.Laid.{Store, Laid}
-use Rattle.table_levels.specs.Rows.{level-at}
+use Rattle.table_levels.specs.Levels.{level-at}
 use Rattle.merge_levels.proofs.Store.{laid-deepest, laid-formed}
 use Rattle.write_record.specs.Records.{record-of}
 use Rattle.write_act.specs.Acting.{Points, PointsHeld, Overwritten, can-act, Acted}
@@ -40,8 +40,8 @@ use Rattle.write_record.proofs.OneLevel.{words-set, words-stay, level-out, leve
 use Rattle.write_record.proofs.Dooms.{points-gone, points-left}
 use Rattle.write_act.proofs.Named.{written-over, untouched}
 
--- A row by its four words.
-words-are : {a b c d : ℕ} (r : Row) → a ≡ r .w0 → b ≡ r .w1 → c ≡ r .w2 → d ≡ r .w3 → record { w0 = a; w1 = b; w2 = c; w3 = d } ≡ r
+-- A row by its words.
+words-are : {a b c d : ℕ} (r : Row) → a ≡ r .points → b ≡ r .ranges → c ≡ r .held → d ≡ r .owed → record { points = a; ranges = b; held = c; owed = d } ≡ r
 words-are r p q s t = rw (p, q, s, t)
 
 -- The points of level L, and all that is beside them.
@@ -85,10 +85,10 @@ wiping-can (delete k) p ne = refl
 wiping-can (delete-range lo hi) p ne = refl
 
 module _ {g : Store} {e l : List ℕ} (laid : Laid g e l) where
-  module _ {r : Level} (row : r ≡ level-at l (getD l 0 0)) where
+  module _ {d : ℕ} (deep : d ≡ settings-of l .deepest) {r : Level} (row : r ≡ level-at l d) where
     -- What the code has read of the row of level L.
     deepest-row : r ≡ level-at l (g .state .settings .deepest)
-    deepest-row = row ∙ ap (level-at l) (laid-deepest g e l laid)
+    deepest-row = row ∙ ap (level-at l) (deep ∙ laid-deepest g e l laid)
 
     pub overwrite-asked : PointsHeld (deepest-points g) e (r .points)
     overwrite-asked =
@@ -175,11 +175,11 @@ module _ {g : Store} {e l : List ℕ} (laid : Laid g e l) where
     put-ends (delete k) is one t o = absurd (omega (arith, ap (λ (x : Record). x .kind) is))
     put-ends (delete-range lo hi) is one t o = absurd (omega (arith, ap (λ (x : Record). x .kind) is))
 
-    module _ (v : Write ℕ) {w : Record} (is : w ≡ record-of v) (ne : w .kind ≢ 1) {r : Level} (row : r ≡ level-at l (getD l 0 0)) {e′ : List ℕ} {m : Cursor}
+    module _ (v : Write ℕ) {w : Record} (is : w ≡ record-of v) (ne : w .kind ≢ 1) {d : ℕ} (deep : d ≡ settings-of l .deepest) {r : Level} (row : r ≡ level-at l d) {e′ : List ℕ} {m : Cursor}
         (s : Sifted (doomed (which.Points (w .lo) (w .hi))) (points-of g (g .state .settings .deepest)) e′ m) where
       -- The row that the code leaves.
       abbrev left-row : Row
-      left-row = record { w0 = m .head; w1 = r .ranges; w2 = r .held - m .gone; w3 = r .owed }
+      left-row = record { points = m .head; ranges = r .ranges; held = r .held - m .gone; owed = r .owed }
 
       wiping : record-of v .kind ≢ 1
       wiping q = ne (ap (λ (x : Record). x .kind) is ∙ q)
@@ -211,12 +211,12 @@ module _ {g : Store} {e l : List ℕ} (laid : Laid g e l) where
       wiped-row : left-row ≡ row-of-level wiped
       unfolding deepest-level wiped
       wiped-row =
-          let r≡ : r ≡ level-of deepest-level = row-is laid (g .state .settings .deepest) (omega arith) (deepest-row row) in
+          let r≡ : r ≡ level-of deepest-level = row-is laid (g .state .settings .deepest) (omega arith) (deepest-row deep row) in
           let gone : m .gone ≡ length (select goes (deepest-level .points)) = s .counts ∙ ap length gone≡ ∙ length-map (select goes (deepest-level .points)) point-cell in
           words-are (row-of-level wiped) (s .head-is ∙ ap head left≡) (ap (λ (x : Level). x .ranges) r≡)
           (omega (arith, ap (λ (x : Level). x .held) r≡, length-select goes (deepest-level .points))) (ap (λ (x : Level). x .owed) r≡)
 
-      wipe-acted : Acted g v e l e′ (set-row l (getD l 0 0 + 1) left-row) true
+      wipe-acted : Acted g v e l e′ (set-row l d left-row) true
       unfolding wipe set-points deepest-level goes wiped
       wipe-acted =
           let p : State ℕ ℕ = g .state in
@@ -225,12 +225,12 @@ module _ {g : Store} {e l : List ℕ} (laid : Laid g e l) where
           let state≡ : act-deepest (g .time) v p ≡ stored p free (set (p .levels) i wiped) = act-wipes (g .time) v p wiping in
           record {
             laid = rw state≡ (level-back laid i wiped free wiped-held (rw state≡ at (acted-formed v))
-                (ap (λ ws. set-row ws (getD l 0 0 + 1) left-row) (laid .levels)
-                ∙ ap (λ k. set-row (level-words p) (k + 1) left-row) (laid-deepest g e l laid)
-                ∙ ap (set-row (level-words p) (i + 1)) wiped-row ∙ sym (words-set p free i wiped (omega (arith, laid .formed .size)))));
+                (ap (λ ws. set-row ws d left-row) (laid .levels)
+                ∙ ap (λ k. set-row (level-words p) k left-row) (deep ∙ laid-deepest g e l laid)
+                ∙ ap (set-row (level-words p) i) wiped-row ∙ sym (words-set p free i wiped (omega (arith, laid .formed .size)))));
             done-is = wiping-can v p wiping;
             kept = λ q. absurd (true≢false q);
           }
 
-      pub wipe-ends : {l′ : List ℕ} → l′ ≡ set-row l (getD l 0 0 + 1) left-row → Acted g v e l e′ l′ true
+      pub wipe-ends : {l′ : List ℕ} → l′ ≡ set-row l d left-row → Acted g v e l e′ l′ true
       wipe-ends words = rw words wipe-acted

@@ -15,14 +15,12 @@ use Rattle.lists.proofs.Tests.{all-right, all-weaken, append-map, select-none}
 use Rattle.model.specs.Records.{Entry, value, tombstone, Point, is-put}
 use Rattle.model.specs.Merge.{names}
 use Rattle.model.specs.Steps.{overwrite}
-use Rattle.tables.specs.Words.{Row, row-of}
-use Rattle.tables.specs.Placed.{Cell, entry-kind, point-cell, head, cell-row}
-use Rattle.tables.proofs.Rows.{InTable}
+use Rattle.tables.proofs.Slots.{length-set-slot, slot-other, slot-same}
+use Rattle.tables.specs.Slots.{InTable, slot-at, set-slot, span-from, with-value}
+use Rattle.tables.specs.Placed.{Cell, entry-kind, point-cell, head, cell-slot}
 use Rattle.tables.proofs.Cells.{Chained}
 use Rattle.chain_cells.specs.Held.{Held}
-use Rattle.chain_links.specs.Links.{stamped}
 use Rattle.chain_cells.specs.Sifting.{Chain, OneHeld}
-use Rattle.chain_links.proofs.Links.{stamped-other, stamped-same}
 use Rattle.chain_cells.proofs.Frames.{chain-end}
 use Rattle.chain_cells.proofs.Laws.{rewritten-first}
 use Rattle.chain_sieve.specs.Doomed.{doomed}
@@ -34,41 +32,9 @@ use Rattle.write_act.specs.Acting.{PointsHeld, Overwritten}
 use Rattle.write_act.specs.Acting as acting
 use Rattle.write_act.proofs.Named.{Named, find-named, named-first, written-over, untouched, overwritten}
 
--- The third word of a row changed.
-module _ (e : List ℕ) (s a : ℕ) where
-  tally-other : (u : ℕ) → u ≢ s → row-of (set e (4 * s + 2) a) u ≡ row-of e u
-  tally-other u ne =
-      let n0 : 4 * u ≢ 4 * s + 2 = λ q. absurd (omega arith) in
-      let n1 : 4 * u + 1 ≢ 4 * s + 2 = λ q. absurd (omega arith) in
-      let n2 : 4 * u + 2 ≢ 4 * s + 2 = λ q. ne (omega arith) in
-      let n3 : 4 * u + 3 ≢ 4 * s + 2 = λ q. absurd (omega arith) in
-      simp (getD-set-other, n0, n1, n2, n3)
-
-  tally-same : InTable e s → row-of (set e (4 * s + 2) a) s ≡ record { w0 = row-of e s .w0; w1 = row-of e s .w1; w2 = a; w3 = row-of e s .w3 }
-  tally-same h =
-      let low : 4 * s + 2 < length e = omega arith in
-      let n0 : 4 * s ≢ 4 * s + 2 = λ q. absurd (omega arith) in
-      let n1 : 4 * s + 1 ≢ 4 * s + 2 = λ q. absurd (omega arith) in
-      let n3 : 4 * s + 3 ≢ 4 * s + 2 = λ q. absurd (omega arith) in
-      simp (getD-set-other, getD-set-same, n0, n1, n3)
-
 -- The table after tally and stamp of slot s have changed.
 abbrev pub rewritten-words : List ℕ → ℕ → ℕ → ℕ → List ℕ
-rewritten-words e s a t = set (set e (4 * s + 2) a) (4 * s + 3) t
-
-module _ (e : List ℕ) (s a t : ℕ) where
-  same-room : length (rewritten-words e s a t) ≡ length e
-  same-room = length-set (set e (4 * s + 2) a) (4 * s + 3) t ∙ length-set e (4 * s + 2) a
-
-  other-rows : (u : ℕ) → u ≢ s → row-of (rewritten-words e s a t) u ≡ row-of e u
-  unfolding stamped
-  other-rows u ne = stamped-other (set e (4 * s + 2) a) s t u ne ∙ tally-other e s a u ne
-
-  own-row : InTable e s → row-of (rewritten-words e s a t) s ≡ record { w0 = row-of e s .w0; w1 = row-of e s .w1; w2 = a; w3 = t }
-  unfolding stamped
-  own-row h =
-      stamped-same (set e (4 * s + 2) a) s t (omega (arith, length-set e (4 * s + 2) a))
-      ∙ ap (λ (r : Row). record { w0 = r .w0; w1 = r .w1; w2 = r .w2; w3 = t }) (tally-same e s a h)
+rewritten-words e s a t = set-slot e s (with-value a t (slot-at e s))
 
 put-kind : (n : Entry ℕ) → is-put n ≡ true → entry-kind n ≡ 1
 put-kind (value a) h = refl
@@ -106,12 +72,12 @@ module _ {g : acting.Points} {e : List ℕ} {first : ℕ} (h : PointsHeld g e fi
             let cs : List Cell = map point-cell (n .after) in
             let put≡ : entry-kind (n .point .entry) ≡ 1 =
             put-kind (n .point .entry) (all-right (λ p. is-put (p .entry) ≡ true) (n .before) (n .point ∷ n .after) (rw (n .whole) at (h .puts)) .0) in
-            let row : row-of (rewritten-words e x a t) x ≡ cell-row (head cs) (point-cell (written-over a t (n .point))) =
-            own-row e x a t (omega (arith, at-place .1, h .held .holds .room)) ∙ ap (λ (r : Row). record { w0 = r .w0; w1 = r .w1; w2 = a; w3 = t }) (at-place .2)
-            ∙ ap (λ (kind : ℕ). cell-row (head cs) (record { slot = x; kind = kind; span = n .point .key + 65536 * n .point .key; tally = a; stamp = t })) put≡ in
+            let row : slot-at (rewritten-words e x a t) x ≡ cell-slot (head cs) (point-cell (written-over a t (n .point))) =
+            slot-same e x _ (omega (arith, at-place .1, h .held .holds .room)) ∙ ap (with-value a t) (at-place .2)
+            ∙ ap (λ (kind : ℕ). cell-slot (head cs) (record { slot = x; kind = kind; span = span-from (n .point .key) (n .point .key); tally = a; stamp = t })) put≡ in
             rw (overwritten k a t (g .points) n, append-map point-cell (n .before) (written-over a t (n .point) ∷ n .after))
             (rewritten-first (g .slots) (g .clock) (g .free) (map point-cell (n .before)) (point-cell (n .point)) (point-cell (written-over a t (n .point))) cs (g .others) e
-            (rewritten-words e x a t) here refl (same-room e x a t) (λ u ne nz. other-rows e x a t u ne) (other-rows e x a t 0 (omega (arith, at-place .0))) row)
+            (rewritten-words e x a t) here refl (length-set-slot e x _) (λ u ne nz. slot-other e x _ u (λ q. ne (sym q))) (slot-other e x _ 0 (omega (arith, at-place .0))) row)
 
         slot-is : s ≡ n .point .slot
         slot-is = s-is ∙ named-first k (g .points) n

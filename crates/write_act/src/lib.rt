@@ -3,6 +3,7 @@ use chain_sieve::Doomed;
 use chain_sieve::first_doomed;
 use chain_sieve::sieve;
 use table_levels::Level;
+use table_levels::deepest_of;
 use table_levels::level_at;
 use table_levels::set_level;
 use table_slots::PUT;
@@ -26,7 +27,7 @@ pub fn act(e: &mut [u32], l: &mut [u32], clock: u32, w: Record) -> bool
     ensures { λ r. ⌜ ((g : Store) (v : Write ℕ) → Laid g (now (e .entry)) (now (l .entry)) → g .time ≡ clock → w ≡ record-of v → bad-docket (written v) ≡ false
         → Acted g v (now (e .entry)) (now (l .entry)) (now (e .exit)) (now (l .exit)) r) ⌝ }
 {
-    let deepest = l[0] as usize;
+    let deepest = deepest_of(l);
     let level = level_at(l, deepest);
     if w.kind == PUT {
         return overwrite(e, level.points, clock, w.lo, w.tally);

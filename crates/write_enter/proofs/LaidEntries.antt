@@ -11,15 +11,15 @@ use Rattle.model.specs.Records.{State, empty, level, stored}
 use Rattle.model.specs.Merge.{release, merged}
 use Rattle.model.specs.Steps.{Write, single, displaced, enter-at, enter}
 use Rattle.model.specs.Calls.{written, bad-docket, timed}
-use Rattle.tables.specs.Words.{set-row}
+use Rattle.tables.specs.Rows.{set-row}
 use Rattle.tables.specs.Placed.{point-cell, range-cell, level-chains, level-words}
 use Rattle.tables.specs.Formed.{Formed}
 use Rattle.tables.proofs.FormedSteps.{entered-at, formed-at, at-formed}
 use Rattle.table_levels.specs.declared.Level.{Level}
 use Rattle.merge_levels.specs.Laid.{Store, Laid, at-state}
-use Rattle.table_levels.specs.Rows.{level-at}
+use Rattle.table_levels.specs.Levels.{level-at, row-at}
 use Rattle.merge_levels.proofs.Store.{laid-formed}
-use Rattle.merge_levels.proofs.Pair.{read-level, row-of-read}
+use Rattle.merge_levels.proofs.Pair.{read-level}
 use Rattle.write_record.specs.Records.{record-of}
 use Rattle.write_enter.specs.Entering.{Entry, EntryHeld, Entered, Entering}
 use Rattle.write_record.specs.declared.Record.{Record}
@@ -91,7 +91,7 @@ module _ {g : Store} {e l : List ℕ} (v : Write ℕ) (laid : Laid g e l) (low :
       (entered-at (g .time) p low v p d room (formed-at (g .slots) (g .time) p (omega arith) (laid .formed))) (enter-at-clock (g .time) v p free))
 
   -- The tables with the entered buffer and its row hold the words of the entered state.
-  entered-laid : {e′ : List ℕ} {r : Level} → Entered (entry g v) e′ r → Laid (at-state g (enter (g .time) v (g .state))) e′ (set-row l (0 + 1) (row-of-read r))
+  entered-laid : {e′ : List ℕ} {r : Level} → Entered (entry g v) e′ r → Laid (at-state g (enter (g .time) v (g .state))) e′ (set-row l 0 (row-at r))
   unfolding enter enter-at
   entered-laid {e′} {r} n =
       let p : State ℕ ℕ = g .state in
@@ -99,12 +99,12 @@ module _ {g : Store} {e l : List ℕ} (v : Write ℕ) (laid : Laid g e l) (low :
       let state≡ : enter (g .time) v p ≡ stored p (n .rest) (set (p .levels) 0 buffer) = ap (enter-at (g .time) v p) (n .free) in
       rw state≡
       (level-back laid 0 buffer (n .rest) (n .held) (rw state≡ at entered-formed)
-      (ap (λ ws. set-row ws (0 + 1) (row-of-read r)) (laid .levels) ∙ ap (λ (x : Level). set-row (level-words p) (0 + 1) (row-of-read x)) (n .buffer-is)
+      (ap (λ ws. set-row ws 0 (row-at r)) (laid .levels) ∙ ap (λ (x : Level). set-row (level-words p) 0 (row-at x)) (n .buffer-is)
       ∙ sym (words-set p (n .rest) 0 buffer (omega (arith, laid .formed .size)))))
 
 -- The same at the clock of the code.
 pub entry-ends : {g : Store} {e l e′ l′ : List ℕ} {clock : ℕ} {r : Level} (v : Write ℕ) → Laid g e l → 1 ≤ clock → g .time ≡ clock → bad-docket (written v) ≡ false
-    → none (release (displaced clock v (g .state)) (g .state .free)) ≡ false → Entered (entry g v) e′ r → l′ ≡ set-row l (0 + 1) (row-of-read r)
+    → none (release (displaced clock v (g .state)) (g .state .free)) ≡ false → Entered (entry g v) e′ r → l′ ≡ set-row l 0 (row-at r)
     → Laid (at-state g (enter clock v (g .state))) e′ l′
 entry-ends {g} v laid low t d room n words =
     rw (← t, words) (entered-laid v laid (omega arith) d (ap (λ (k : ℕ). none (release (displaced k v (g .state)) (g .state .free))) t ∙ room) n)

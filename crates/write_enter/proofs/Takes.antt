@@ -4,30 +4,28 @@ use mathlib.Core.Logic.{_≢_}
 use mathlib.Core.List.{List, map}
 use Prim.Native.Nat.{ℕ, _+_, _*_, _≤_}
 use native.Mathlib.Omega.{arith}
-use lib.ListN.{length, getD, set, length-set}
-use Rattle.tables.specs.Words.{Row, row-of, set-row, next-of}
-use Rattle.tables.specs.Placed.{free-cell, head, cell-row}
-use Rattle.tables.proofs.Rows.{InTable, length-set-row, row-same, row-other}
+use lib.ListN.{length}
+use Rattle.tables.proofs.Slots.{length-set-slot, slot-other, slot-same}
+use Rattle.tables.specs.Slots.{InTable, Slot, slot-at, set-slot, next-of, top-slot, first-free, with-link}
+use Rattle.tables.specs.Placed.{free-cell, head, cell-slot}
 use Rattle.tables.proofs.Reading.{next-at}
-use Rattle.chain_links.proofs.Links.{first-other, first-same}
 use Rattle.chain_cells.proofs.Frames.{Off}
 use Rattle.chain_cells.proofs.Laws.{taken}
 use Rattle.write_record.specs.Records.{record-cell}
 use Rattle.write_enter.specs.Taking.{Free, FreeHeld, Taken}
 use Rattle.write_record.specs.declared.Record.{Record}
 
--- The row of a chain's last cell with this record.
-abbrev pub record-row : ℕ → Record → Row
-record-row t w = record { w0 = w .kind * 65536; w1 = w .lo + 65536 * w .hi; w2 = w .tally; w3 = t }
+-- Slot 0 once another slot is the first free one, and the table after slot x, which was followed by next on the free chain, has taken the record.
+abbrev unchained : List ℕ → ℕ → List ℕ
+unchained e next = set-slot e 0 (with-link next (slot-at e 0))
 
--- The table after slot x, which is followed by next on the free chain, has taken the record.
-abbrev pub filled : List ℕ → ℕ → ℕ → ℕ → Record → List ℕ
-filled e x next t w = set-row (set e 0 next) x (record-row t w)
+abbrev filled : List ℕ → ℕ → ℕ → ℕ → Record → List ℕ
+filled e x next t w = set-slot (unchained e next) x (cell-slot 0 (record-cell x t w))
 
 module _ {g : Free} {e : List ℕ} {w : Record} (h : FreeHeld g e w) where
   -- The first free slot, where it lies, and the one after it.
-  pub first-slot : getD e 0 0 ≡ g .first
-  first-slot = ap (λ (r : Row). r .w0) (h .held .holds .first)
+  pub first-slot : first-free e ≡ g .first
+  first-slot = ap (λ (r : Slot). r .link) (h .held .holds .first)
 
   first-inside : (1 ≤ g .first) × (g .first ≤ g .slots)
   first-inside = (h .held .holds .each .0 .0, h .held .holds .each .0 .1)
@@ -50,23 +48,21 @@ module _ {g : Free} {e : List ℕ} {w : Record} (h : FreeHeld g e w) where
 
     same-room : length after ≡ length e
     unfolding after
-    same-room = length-set-row (set e 0 next) (g .first) (record-row t w) ∙ length-set e 0 next
+    same-room = length-set-slot (unchained e next) (g .first) _ ∙ length-set-slot e 0 _
 
     off : Off (g .first) e after
     unfolding after
-    off u ne nz = row-other (set e 0 next) (g .first) (record-row t w) u (λ q. ne (sym q)) ∙ first-other e 0 next u nz
+    off u ne nz = slot-other (unchained e next) (g .first) _ u (λ q. ne (sym q)) ∙ slot-other e 0 _ u (λ q. nz (sym q))
 
-    top-after : row-of after 0 ≡ record { w0 = next; w1 = g .clock; w2 = 0; w3 = 0 }
+    top-after : slot-at after 0 ≡ top-slot next (g .clock)
     unfolding after
     top-after =
-        row-other (set e 0 next) (g .first) (record-row t w) 0 not-zero ∙ first-same e 0 next (omega (arith, first-in-table))
-        ∙ ap (λ (r : Row). record { w0 = next; w1 = r .w1; w2 = r .w2; w3 = r .w3 }) (h .held .holds .first)
+        slot-other (unchained e next) (g .first) _ 0 not-zero ∙ slot-same e 0 _ (omega (arith, first-in-table))
+        ∙ ap (with-link next) (h .held .holds .first)
 
-    row-after : row-of after (g .first) ≡ cell-row 0 (record-cell (g .first) t w)
+    row-after : slot-at after (g .first) ≡ cell-slot 0 (record-cell (g .first) t w)
     unfolding after
-    row-after =
-        row-same (set e 0 next) (g .first) (record-row t w) (omega (arith, first-in-table, length-set e 0 next))
-        ∙ ap (λ (k : ℕ). record { w0 = k; w1 = w .lo + 65536 * w .hi; w2 = w .tally; w3 = t }) (omega arith)
+    row-after = slot-same (unchained e next) (g .first) _ (omega (arith, first-in-table, length-set-slot e 0 (with-link next (slot-at e 0))))
 
     -- The slot is off the free chain, and a chain of its own.
     slot-taken : Taken g t w (filled e (g .first) (head (map free-cell (g .rest))) t w) (g .first)
@@ -77,8 +73,9 @@ module _ {g : Free} {e : List ℕ} {w : Record} (h : FreeHeld g e w) where
     }
 
     -- The same in the words of the code.
-    pub take-ends : {next′ : ℕ} {e′ : List ℕ} → next′ ≡ next-of e (getD e 0 0) → e′ ≡ filled e (getD e 0 0) next′ t w → Taken g t w e′ (getD e 0 0)
-    take-ends {next′} {e′} next≡ table≡ =
+    pub take-ends : {x next′ : ℕ} {e′ : List ℕ} → x ≡ first-free e → next′ ≡ next-of e x → e′ ≡ filled e x next′ t w → Taken g t w e′ x
+    take-ends {x} {next′} {e′} first≡ next≡ table≡ =
+        let at-first : x ≡ g .first = first≡ ∙ first-slot in
         let table : e′ ≡ filled e (g .first) (head (map free-cell (g .rest))) t w =
-        table≡ ∙ ap (λ (x : ℕ). filled e x next′ t w) first-slot ∙ ap (λ (y : ℕ). filled e (g .first) y t w) (next≡ ∙ ap (next-of e) first-slot ∙ first-next) in
-        record { held = rw table (slot-taken .held); slot-is = first-slot }
+        table≡ ∙ ap (λ (y : ℕ). filled e y next′ t w) at-first ∙ ap (λ (y : ℕ). filled e (g .first) y t w) (next≡ ∙ ap (next-of e) at-first ∙ first-next) in
+        record { held = rw table (slot-taken .held); slot-is = at-first }

@@ -8,8 +8,10 @@ use table_levels::level_at;
 use table_levels::set_level;
 use table_slots::PUT;
 use table_slots::RANGE;
+use table_slots::first_free;
 use table_slots::next_of;
-use table_slots::set_row;
+use table_slots::set_first_free;
+use table_slots::set_record;
 use write_record::Record;
 ghost use mathlib.Core.Path.{_≡_};
 ghost use mathlib.Core.Logic.{_≢_};
@@ -25,9 +27,6 @@ ghost use Rattle.merge_levels.specs.Laid.{Store, Laid, at-state};
 ghost use Rattle.write_record.specs.Records.{record-of};
 ghost use Rattle.write_enter.specs.Taking.{Free, FreeHeld, Taken};
 ghost use Rattle.write_enter.specs.Entering.{Entry, EntryHeld, Entered, Entering};
-
-// Kinds are stacked on next slots at this base, and hi on lo.
-const BASE: u32 = 65536;
 
 // The write enters the buffer as a level of one record merged into it.
 pub fn enter(e: &mut [u32], l: &mut [u32], clock: u32, w: Record)
@@ -88,10 +87,9 @@ fn take(e: &mut [u32], clock: u32, w: Record) -> usize
     requires { ⌜ Exists (λ g. FreeHeld g (now e) w) ⌝ }
     ensures { λ r. ⌜ ((g : Free) → FreeHeld g (now (e .entry)) w → Taken g clock w (now (e .exit)) r) ⌝ }
 {
-    let slot = e[0] as usize;
-    let next = next_of(e, slot);
-    e[0] = next as u32;
-    set_row(e, slot, w.kind * BASE, w.lo + BASE * w.hi, w.tally, clock);
+    let slot = first_free(e);
+    set_first_free(e, next_of(e, slot));
+    set_record(e, slot, w.kind, w.lo, w.hi, w.tally, clock);
     slot
 }
 

@@ -15,7 +15,7 @@ use Rattle.model.specs.Records as model
 use Rattle.model.specs.Records.{level}
 use Rattle.model.specs.Merge.{point-goes, range-goes, point-slots, range-slots}
 use Rattle.model.specs.Steps.{Write, unplaced, crowded}
-use Rattle.tables.specs.Words.{Row}
+use Rattle.tables.specs.Slots.{Slot, first-free}
 use Rattle.tables.specs.Placed.{Cell, free-cell, point-cell, range-cell, head}
 use Rattle.tables.proofs.Cells.{Chained}
 use Rattle.chain_sieve.specs.Doomed.{doomed}
@@ -53,9 +53,9 @@ module _ {g : Store} {e l : List ℕ} (laid : Laid g e l) (v : Write ℕ) {w : R
   ranges-gone-of = select (range-goes (unplaced (g .time) v .ranges)) (level 0 (g .state) .ranges)
 
   -- No free slot, no point and no range that would go, as the code asks each.
-  free-none : eqb (getD e 0 0) 0 ≡ none (g .state .free)
+  free-none : eqb (first-free e) 0 ≡ none (g .state .free)
   free-none =
-      ap (λ (r : Row). eqb (r .w0) 0) (laid .entries .first) ∙ head-none (g .slots) e (map free-cell (g .state .free)) (laid .entries .each .0)
+      ap (λ (r : Slot). eqb (r .link) 0) (laid .entries .first) ∙ head-none (g .slots) e (map free-cell (g .state .free)) (laid .entries .each .0)
       ∙ none-map free-cell (g .state .free)
 
   points-none : {s : ℕ} → s ≡ head (select (doomed (Points (w .lo) (w .hi))) (map point-cell (level 0 (g .state) .points))) → eqb s 0 ≡ none (point-slots points-gone-of)
@@ -75,17 +75,17 @@ module _ {g : Store} {e l : List ℕ} (laid : Laid g e l) (v : Write ℕ) {w : R
   unfolding crowded
   crowded-is a b c = rw (a, b, c) (ap (_&&_ (none (g .state .free))) (sym (none-append (point-slots points-gone-of) (range-slots ranges-gone-of))))
 
-  pub free-slot : getD e 0 0 ≢ 0 → false ≡ crowded (g .time) v (g .state)
-  free-slot nz = crowded-is (sym (ne-eqb (getD e 0 0) 0 nz) ∙ free-none) refl refl
+  pub free-slot : first-free e ≢ 0 → false ≡ crowded (g .time) v (g .state)
+  free-slot nz = crowded-is (sym (ne-eqb (first-free e) 0 nz) ∙ free-none) refl refl
 
   module _ {s : ℕ} (points : s ≡ head (select (doomed (Points (w .lo) (w .hi))) (map point-cell (level 0 (g .state) .points)))) where
-    pub point-goes-first : getD e 0 0 ≡ 0 → s ≢ 0 → false ≡ crowded (g .time) v (g .state)
-    point-goes-first z nz = crowded-is (sym (eq-eqb (getD e 0 0) 0 z) ∙ free-none) (sym (ne-eqb s 0 nz) ∙ points-none points) refl
+    pub point-goes-first : first-free e ≡ 0 → s ≢ 0 → false ≡ crowded (g .time) v (g .state)
+    point-goes-first z nz = crowded-is (sym (eq-eqb (first-free e) 0 z) ∙ free-none) (sym (ne-eqb s 0 nz) ∙ points-none points) refl
 
-    pub point-crowded : getD e 0 0 ≡ 0 → s ≡ 0 → w .kind ≢ 3 → true ≡ crowded (g .time) v (g .state)
-    point-crowded z zs pointed = crowded-is (sym (eq-eqb (getD e 0 0) 0 z) ∙ free-none) (sym (eq-eqb s 0 zs) ∙ points-none points)
+    pub point-crowded : first-free e ≡ 0 → s ≡ 0 → w .kind ≢ 3 → true ≡ crowded (g .time) v (g .state)
+    point-crowded z zs pointed = crowded-is (sym (eq-eqb (first-free e) 0 z) ∙ free-none) (sym (eq-eqb s 0 zs) ∙ points-none points)
         (sym (ap (λ (qs : List (model.Range ℕ)). none (range-slots qs)) (no-range-gone (g .time) v (level 0 (g .state) .ranges) (λ q. pointed (ap (λ (r : Record). r .kind) is ∙ q)))))
 
-    pub range-crowded : getD e 0 0 ≡ 0 → s ≡ 0 → w .kind ≡ 3 → {s′ : ℕ} → s′ ≡ head (select (doomed (Range (w .lo) (w .hi))) (map range-cell (level 0 (g .state) .ranges)))
+    pub range-crowded : first-free e ≡ 0 → s ≡ 0 → w .kind ≡ 3 → {s′ : ℕ} → s′ ≡ head (select (doomed (Range (w .lo) (w .hi))) (map range-cell (level 0 (g .state) .ranges)))
         → eqb s′ 0 ≡ crowded (g .time) v (g .state)
-    range-crowded z zs ranged ranges = crowded-is (sym (eq-eqb (getD e 0 0) 0 z) ∙ free-none) (sym (eq-eqb s 0 zs) ∙ points-none points) (ranges-none ranged ranges)
+    range-crowded z zs ranged ranges = crowded-is (sym (eq-eqb (first-free e) 0 z) ∙ free-none) (sym (eq-eqb s 0 zs) ∙ points-none points) (ranges-none ranged ranges)

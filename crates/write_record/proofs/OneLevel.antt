@@ -8,8 +8,9 @@ use lib.Seq.{map-set-same}
 use Rattle.lists.proofs.Tests.{set-map}
 use Rattle.model.specs.Records.{Level, State, empty, level, stored}
 use Rattle.model.specs.Calls.{timed}
-use Rattle.tables.specs.Words.{Row, set-row}
-use Rattle.tables.specs.Placed.{point-cell, range-cell, level-chains, row-words, row-of-level, level-words}
+use Rattle.tables.proofs.Rows.{level-table-set}
+use Rattle.tables.specs.Rows.{set-row, level-table}
+use Rattle.tables.specs.Placed.{point-cell, range-cell, level-chains, row-of-level, level-words}
 use Rattle.tables.specs.Formed.{Formed}
 use Rattle.tables.proofs.Back.{formed-once}
 use Rattle.chain_cells.specs.Held.{Held}
@@ -18,26 +19,23 @@ use Rattle.chain_cells.proofs.Laws.{rearranged, swapped}
 use Rattle.merge_join.specs.Joining.{level-of}
 use Rattle.table_levels.specs.declared.Level as level-row
 use Rattle.merge_levels.specs.Laid.{Store, Laid, at-state}
-use Rattle.table_levels.specs.Rows.{level-at}
+use Rattle.table_levels.specs.Levels.{level-at}
 use Rattle.merge_levels.proofs.LevelChains.{points-out, ranges-out, others-stay, level-in, weigh-out}
-use Rattle.merge_levels.proofs.LevelTable.{row-words-set}
 use Rattle.merge_levels.proofs.Pair.{read-level}
 
 module _ (p : State ℕ ℕ) (free : List ℕ) (i : ℕ) (v : Level ℕ ℕ) where
   -- The level table with the row of another level at i.
-  pub words-set : i < length (p .levels) → level-words (stored p free (set (p .levels) i v)) ≡ set-row (level-words p) (i + 1) (row-of-level v)
+  pub words-set : i < length (p .levels) → level-words (stored p free (set (p .levels) i v)) ≡ set-row (level-words p) i (row-of-level v)
   unfolding level-words
   words-set deep =
-      let one : i + 1 ≡ suc i = omega arith in
-      let first : Row = record { w0 = p .settings .deepest; w1 = p .settings .ratio; w2 = p .settings .buffer; w3 = p .settings .term } in
-      rw one (ap (λ rs. row-words (first ∷ rs)) (sym (set-map row-of-level (p .levels) i v))
-      ∙ row-words-set (first ∷ map row-of-level (p .levels)) (suc i) (row-of-level v) (omega (arith, length-map (p .levels) row-of-level)))
+      ap (level-table (p .settings)) (sym (set-map row-of-level (p .levels) i v))
+      ∙ level-table-set (p .settings) (map row-of-level (p .levels)) i (row-of-level v) (omega (arith, length-map (p .levels) row-of-level))
 
   -- Where its row is that of the old level, the level table stays.
   pub words-stay : row-of-level v ≡ row-of-level (level i p) → level-words (stored p free (set (p .levels) i v)) ≡ level-words p
   unfolding level-words
   words-stay same =
-      ap (λ rs. row-words (record { w0 = p .settings .deepest; w1 = p .settings .ratio; w2 = p .settings .buffer; w3 = p .settings .term } ∷ rs)) (map-set-same row-of-level (p .levels) i v empty same)
+      ap (level-table (p .settings)) (map-set-same row-of-level (p .levels) i v empty same)
 
 module _ {g : Store} {e l : List ℕ} (laid : Laid g e l) (i : ℕ) where
   -- The chains of level i come first, those of the others after them.

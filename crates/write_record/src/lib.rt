@@ -3,6 +3,7 @@ use chain_sieve::Doomed;
 use chain_sieve::first_doomed;
 use table_levels::level_at;
 use table_slots::RANGE;
+use table_slots::first_free;
 ghost use mathlib.Core.Path.{_≡_};
 ghost use Prim.Native.Nat.{ℕ};
 ghost use Rattle.lists.specs.All.{Exists};
@@ -24,7 +25,7 @@ pub fn is_crowded(e: &[u32], l: &[u32], w: Record) -> bool
     requires { ⌜ Exists (λ (v : Write ℕ). w ≡ record-of v) ⌝ }
     ensures { λ r. ⌜ ((g : Store) (v : Write ℕ) → Laid g (now (e .entry)) (now (l .entry)) → w ≡ record-of v → r ≡ crowded (g .time) v (g .state)) ⌝ }
 {
-    if e[0] != 0 {
+    if first_free(e) != 0 {
         return false;
     }
     let buffer = level_at(l, 0);

@@ -2,7 +2,7 @@
 use mathlib.Core.Path.{_≡_, refl, sym, ap, _∙_}
 use native.Mathlib.Omega.{arith}
 use lib.ListN.{length}
-use Rattle.tables.specs.Words.{lo-of}
+use Rattle.tables.specs.Slots.{lo-of}
 use Rattle.tables.specs.Sound.{chain-from}
 use Rattle.chain_cover.specs.Walks.{Ordered}
 use Rattle.chain_cover.specs.Skips.{first-slot, beginning}

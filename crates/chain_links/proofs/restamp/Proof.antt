@@ -1,13 +1,17 @@
--- `chain_links::restamp` meets its contract: a stamp not written is the later one.
+-- A stamp that is not written is the later one already.
 use mathlib.Core.Path.{sym, ap, _∙_}
-use Prim.Native.Nat.{_+_, _*_}
+use Prim.Native.Nat.{ℕ}
 use native.Mathlib.Omega.{arith}
-use borrow.Author.Needs.{needs}
-use lib.ListN.{set}
-use lib.Seq.{set-getD}
+use Rattle.tables.specs.Slots.{slot-at, set-slot, with-stamp}
+use Rattle.tables.proofs.Slots.{slot-kept}
 use Rattle.chain_links.specs.Links.{stamped}
+use borrow.Author.Needs.{needs}
 use Rattle.chain_links.proofs.restamp.Statement.{statement}
 use Rattle.chain_links.proofs.restamp.Tie as tie
+
+-- Where the code stands, seen from a later place.
+abbrev entry-of : tie.After-stamp-of → tie.Start
+entry-of c = c .before .before .before
 
 stamp-of-requires : tie.Need-stamp-of-requires
 stamp-of-requires c κs = search needs
@@ -24,9 +28,12 @@ same-length c = search needs
 returns : tie.Need-returns
 unfolding stamped
 returns c =
-    let a = c .before .before .before .before .before .before .before .before .before .before .args in
-    c .before .before .set-stamp .ensures
-    ∙ ap (set (a .e .now) (4 * a .slot + 3)) (omega (arith, c .before .before .before .before .before .before .before .stamp-of .ensures, c .before .before .before .before .before .stamp-of2 .ensures, c .before .before .before .before .if1 .taken))
+    let after-set-stamp = c .before .before in
+    let then-1 = after-set-stamp .before .before in
+    let after-stamp-of2 = then-1 .before in
+    let after-stamp-of = after-stamp-of2 .before .before in
+    let entry = entry-of after-stamp-of in
+    after-set-stamp .set-stamp .ensures ∙ ap (λ (t : ℕ). set-slot (entry .args .e .now) (entry .args .slot) (with-stamp t (slot-at (entry .args .e .now) (entry .args .slot)))) (omega (arith, after-stamp-of .stamp-of .ensures, after-stamp-of2 .stamp-of2 .ensures, then-1 .if1 .taken))
 
 same-length-2 : tie.Need-same-length-2
 same-length-2 c = search needs
@@ -34,9 +41,10 @@ same-length-2 c = search needs
 returns-2 : tie.Need-returns-2
 unfolding stamped
 returns-2 c =
-    let a = c .before .before .before .before .before .before .args in
-    sym (set-getD (a .e .now) (4 * a .slot + 3) 0)
-    ∙ ap (set (a .e .now) (4 * a .slot + 3)) (omega (arith, c .before .before .before .stamp-of .ensures, c .before .stamp-of2 .ensures, c .if1 .left))
+    let after-stamp-of2 = c .before in
+    let after-stamp-of = after-stamp-of2 .before .before in
+    let entry = entry-of after-stamp-of in
+    sym (slot-kept (entry .args .e .now) (entry .args .slot)) ∙ ap (λ (t : ℕ). set-slot (entry .args .e .now) (entry .args .slot) (with-stamp t (slot-at (entry .args .e .now) (entry .args .slot)))) (omega (arith, after-stamp-of .stamp-of .ensures, after-stamp-of2 .stamp-of2 .ensures, c .if1 .left))
 
 pub restamp-spec : {M : Type 1} → statement M
 restamp-spec =

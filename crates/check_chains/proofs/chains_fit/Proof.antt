@@ -1,61 +1,61 @@
--- `check_chains::chains_fit`: the words of slot 0 and the deepest owed, then the free chain, then the levels.
-use Rattle.check_chains.proofs.Levels.{chains-fail, chains-go}
-use Rattle.check_chains.specs.Levels.{chains-checked}
-use Rattle.check_walk.proofs.Unmarked.{unmarked-le}
-use Rattle.check_walk.proofs.Passed.{walk-sum}
-use Rattle.tables.specs.Words.{slots-of}
+-- The words of slot 0 and the deepest owed, then the free chain, then the levels over its marks.
+use mathlib.Core.Path.{refl, sym, ap, _∙_}
 use borrow.Author.Tests.{not-true, not-false}
 use native.Mathlib.Omega.{arith}
-use Rattle.lists.proofs.Branches.{equal, unequal}
-use mathlib.Core.Path.{refl, _∙_}
+use Rattle.lists.proofs.Branches.{unequal, fails, holds}
+use Rattle.tables.specs.Slots.{slots-of}
+use Rattle.check_walk.proofs.Unmarked.{unmarked-le}
+use Rattle.check_walk.proofs.Passed.{walk-sum}
+use Rattle.check_chains.specs.Levels.{chains-checked}
+use Rattle.check_chains.proofs.Levels.{deepest-owed, chains-fail, chains-go}
 use borrow.Author.Needs.{needs}
 use Rattle.check_chains.proofs.chains_fit.Statement.{statement}
 use Rattle.check_chains.proofs.chains_fit.Tie as tie
 
-shared-slice-read-if1 : tie.Need-shared-slice-read-if1
-shared-slice-read-if1 c = search needs
+-- Where the code stands, seen from a later place.
+abbrev entry-of : tie.After-is-top-blank → tie.Start
+entry-of c = c .before .before .before .before
+
+abbrev after-walk-of : tie.Else3 → tie.After-walk
+after-walk-of c = c .before .before .before .before
+
+abbrev after-level-at-of : tie.After-walk → tie.After-level-at
+after-level-at-of c = c .before .before .before .before .before
+
+abbrev after-shared-slice-known2-of : tie.After-level-at → tie.After-shared-slice-known2
+after-shared-slice-known2-of c = c .before .before .before .before .before
+
+abbrev entry-of-2 : tie.After-level-at → tie.Start
+entry-of-2 c = after-shared-slice-known2-of c .before .before
+
+abbrev entry-of-3 : tie.After-walk → tie.Start
+entry-of-3 c = entry-of-2 (after-level-at-of c)
+
+is-top-blank-requires : tie.Need-is-top-blank-requires
+is-top-blank-requires c κs = search needs
 
 returns : tie.Need-returns
 unfolding chains-checked
-returns c = rw (unequal refl refl (c .if1 .taken))
+returns c = rw (fails (c .before .is-top-blank .ensures) (c .if1 .taken))
 
-shared-slice-read-if2 : tie.Need-shared-slice-read-if2
-shared-slice-read-if2 c = search needs
+deepest-of-requires : tie.Need-deepest-of-requires
+deepest-of-requires c κs = search needs
+
+level-at-requires : tie.Need-level-at-requires
+level-at-requires c κs = search needs
 
 returns-2 : tie.Need-returns-2
 unfolding chains-checked
-returns-2 c = rw (equal refl refl (c .before .before .if1 .left), unequal refl refl (c .if2 .taken))
+returns-2 c =
+    let after-level-at = c .before .before in
+    let after-deepest-of = after-level-at .before in
+    let else-1 = after-deepest-of .before in
+    let after-is-top-blank = else-1 .before in
+    let entry = entry-of after-is-top-blank in
+    rw (holds (after-is-top-blank .is-top-blank .ensures) (else-1 .if1 .left), unequal (deepest-owed (entry .args .l .now) (after-level-at .level-at .ensures) (after-deepest-of .deepest-of .ensures)) refl (c .if2 .taken))
 
-shared-slice-read-deepest : tie.Need-shared-slice-read-deepest
-shared-slice-read-deepest c = search needs
-
-cast-deepest : tie.Need-cast-deepest
-cast-deepest c = search needs
-
-add-if3 : tie.Need-add-if3
-add-if3 c = search needs
-
-mul-if3 : tie.Need-mul-if3
-mul-if3 c = search needs
-
-add-if3-2 : tie.Need-add-if3-2
-add-if3-2 c = search needs
-
-mul-if3-2 : tie.Need-mul-if3-2
-mul-if3-2 c = search needs
-
-shared-slice-read-if3 : tie.Need-shared-slice-read-if3
-shared-slice-read-if3 c = search needs
-
-returns-3 : tie.Need-returns-3
-unfolding chains-checked
-returns-3 c = rw (equal refl refl (c .before .before .before .before .before .if1 .left), equal refl refl (c .before .before .before .if2 .left), unequal refl refl (c .if3 .taken))
-
-shared-slice-read-walk : tie.Need-shared-slice-read-walk
-shared-slice-read-walk c = search needs
-
-cast-walk : tie.Need-cast-walk
-cast-walk c = omega (arith, c .shared-slice-known7 .given 0)
+first-free-requires : tie.Need-first-free-requires
+first-free-requires c κs = search needs
 
 walk-requires : tie.Need-walk-requires
 walk-requires c κs = search needs
@@ -63,39 +63,55 @@ walk-requires c κs = search needs
 same-length : tie.Need-same-length
 same-length c = search needs
 
-returns-4 : tie.Need-returns-4
-returns-4 c = chains-fail _ _ _ (c .before .before .before .before .before .before .before .before .before .before .before .before .if1 .left) (c .before .before .before .before .before .before .before .before .before .before .if2 .left) (c .before .before .before .before .before .before .before .if3 .left) (c .before .before .before .before .walk .ensures) (not-true _ (c .if4 .taken))
+returns-3 : tie.Need-returns-3
+returns-3 c =
+    let after-walk = c .before .before .before .before in
+    let after-first-free = after-walk .before .before in
+    let else-2 = after-first-free .before in
+    let after-level-at = else-2 .before .before in
+    let after-deepest-of = after-level-at .before in
+    let else-1 = after-deepest-of .before in
+    let after-is-top-blank = else-1 .before in
+    let entry = entry-of after-is-top-blank in
+    chains-fail _ _ _ (holds (after-is-top-blank .is-top-blank .ensures) (else-1 .if1 .left)) (sym (deepest-owed (entry .args .l .now) (after-level-at .level-at .ensures) (after-deepest-of .deepest-of .ensures)) ∙ else-2 .if2 .left) (after-first-free .first-free .ensures) (after-walk .walk .ensures) (not-true _ (c .if3 .taken))
 
 levels-fit-requires : tie.Need-levels-fit-requires
-levels-fit-requires c κs = (c .before .before .before .before .before .before .before .before .before .before .before .before .before .before .before .before .before .before .pre .0, (omega arith, (c .before .before .before .before .before .before .before .before .before .before .before .before .before .before .before .before .before .before .pre .1 .1 .0, (c .before .before .before .before .before .before .before .before .before .before .before .before .before .before .before .before .before .before .pre .1 .1 .1, omega (arith, walk-sum _ _ _ _ _ (omega arith) (c .before .before .before .before .before .walk .ensures) (not-false _ (c .before .if4 .left)), unmarked-le (slots-of (c .before .before .before .before .before .before .before .before .before .before .before .before .before .before .before .before .before .before .args .e .now)) (c .before .before .before .before .before .before .before .before .before .before .before .before .before .before .before .before .before .before .args .marks .now))))))
+levels-fit-requires c κs =
+    let else-3 = c .before in
+    let after-walk = after-walk-of else-3 in
+    let entry = entry-of-3 after-walk in
+    (entry .pre .0, (omega arith, (entry .pre .1 .1 .0, (entry .pre .1 .1 .1, omega (arith, walk-sum _ _ _ _ _ (omega arith) (after-walk .walk .ensures) (not-false _ (else-3 .if3 .left)), unmarked-le (slots-of (entry .args .e .now)) (entry .args .marks .now))))))
 
 same-length-2 : tie.Need-same-length-2
 same-length-2 c = search needs
 
-returns-5 : tie.Need-returns-5
-returns-5 c = c .before .before .levels-fit .ensures ∙ chains-go _ _ _ (c .before .before .before .before .before .before .before .before .before .before .before .before .before .before .before .before .if1 .left) (c .before .before .before .before .before .before .before .before .before .before .before .before .before .before .if2 .left) (c .before .before .before .before .before .before .before .before .before .before .before .if3 .left) (c .before .before .before .before .before .before .before .before .walk .ensures) (not-false _ (c .before .before .before .before .if4 .left))
+returns-4 : tie.Need-returns-4
+returns-4 c =
+    let after-levels-fit = c .before .before in
+    let else-3 = after-levels-fit .before .before in
+    let after-walk = after-walk-of else-3 in
+    let after-first-free = after-walk .before .before in
+    let else-2 = after-first-free .before in
+    let after-level-at = else-2 .before .before in
+    let after-deepest-of = after-level-at .before in
+    let else-1 = after-deepest-of .before in
+    let after-is-top-blank = else-1 .before in
+    let entry = entry-of after-is-top-blank in
+    after-levels-fit .levels-fit .ensures ∙ chains-go _ _ _ (holds (after-is-top-blank .is-top-blank .ensures) (else-1 .if1 .left)) (sym (deepest-owed (entry .args .l .now) (after-level-at .level-at .ensures) (after-deepest-of .deepest-of .ensures)) ∙ else-2 .if2 .left) (after-first-free .first-free .ensures) (after-walk .walk .ensures) (not-false _ (else-3 .if3 .left))
 
 pub chains-fit-spec : {M : Type 1} → statement M
 chains-fit-spec =
     tie.close
     (tie.spec
-    shared-slice-read-if1
+    is-top-blank-requires
     returns
-    shared-slice-read-if2
+    deepest-of-requires
+    level-at-requires
     returns-2
-    shared-slice-read-deepest
-    cast-deepest
-    add-if3
-    mul-if3
-    add-if3-2
-    mul-if3-2
-    shared-slice-read-if3
-    returns-3
-    shared-slice-read-walk
-    cast-walk
+    first-free-requires
     walk-requires
     same-length
-    returns-4
+    returns-3
     levels-fit-requires
     same-length-2
-    returns-5)
+    returns-4)

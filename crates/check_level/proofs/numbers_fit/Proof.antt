@@ -1,74 +1,49 @@
--- `check_level::numbers_fit`: each return decides the tests of a level's numbers, in their order.
-use Rattle.check_level.specs.Levels.{numbers-fit}
-use Prim.Native.Nat.{_+_, _*_}
-use native.Mathlib.Omega.{arith}
+-- Each return decides the tests of a level's numbers, in their order.
+use mathlib.Core.Path.{refl, ap}
 use Rattle.lists.proofs.Branches.{equal, unequal, upto, above}
-use mathlib.Core.Path.{refl}
+use Rattle.table_levels.specs.declared.Level.{Level}
+use Rattle.check_level.specs.Levels.{numbers-fit}
 use borrow.Author.Needs.{needs}
 use Rattle.check_level.proofs.numbers_fit.Statement.{statement}
 use Rattle.check_level.proofs.numbers_fit.Tie as tie
 
-add-row : tie.Need-add-row
-add-row c = search needs
-
-mul-row : tie.Need-mul-row
-mul-row c = search needs
-
-add-if1 : tie.Need-add-if1
-add-if1 c = search needs
-
-mul-if1 : tie.Need-mul-if1
-mul-if1 c = search needs
-
-shared-slice-read-if1 : tie.Need-shared-slice-read-if1
-shared-slice-read-if1 c = search needs
-
-cast-if1 : tie.Need-cast-if1
-cast-if1 c = omega (arith, c .shared-slice-known .given (4 * (c .before .args .i + 1) + 2))
+level-at-requires : tie.Need-level-at-requires
+level-at-requires c κs = search needs
 
 returns : tie.Need-returns
 unfolding numbers-fit
-returns c = rw (unequal refl refl (c .if1 .taken))
+returns c = rw (unequal (ap (λ (v : Level). v .held) (c .before .before .level-at .ensures)) refl (c .if1 .taken))
 
-add-owed : tie.Need-add-owed
-add-owed c = search needs
-
-mul-owed : tie.Need-mul-owed
-mul-owed c = search needs
-
-shared-slice-read-owed : tie.Need-shared-slice-read-owed
-shared-slice-read-owed c = search needs
-
-shared-slice-read-if2 : tie.Need-shared-slice-read-if2
-shared-slice-read-if2 c = search needs
+clock-of-requires : tie.Need-clock-of-requires
+clock-of-requires c κs = search needs
 
 returns-2 : tie.Need-returns-2
 unfolding numbers-fit
-returns-2 c = rw (equal refl refl (c .before .before .before .if1 .left), above refl refl (c .if2 .taken))
+returns-2 c =
+    let after-clock-of = c .before .before in
+    let else-1 = after-clock-of .before in
+    let after-level-at = else-1 .before .before in
+    rw (equal (ap (λ (v : Level). v .held) (after-level-at .level-at .ensures)) refl (else-1 .if1 .left), above (ap (λ (v : Level). v .owed) (after-level-at .level-at .ensures)) (after-clock-of .clock-of .ensures) (c .if2 .taken))
 
 returns-3 : tie.Need-returns-3
 unfolding numbers-fit
-returns-3 c = rw (equal refl refl (c .before .before .before .before .if1 .left), upto refl refl (c .before .if2 .left), unequal refl refl (c .if3 .taken))
+returns-3 c =
+    let else-2 = c .before in
+    let after-clock-of = else-2 .before .before in
+    let else-1 = after-clock-of .before in
+    let after-level-at = else-1 .before .before in
+    rw (equal (ap (λ (v : Level). v .held) (after-level-at .level-at .ensures)) refl (else-1 .if1 .left), upto (ap (λ (v : Level). v .owed) (after-level-at .level-at .ensures)) (after-clock-of .clock-of .ensures) (else-2 .if2 .left), unequal refl refl (c .if3 .taken))
 
 returns-4 : tie.Need-returns-4
 unfolding numbers-fit
-returns-4 c = rw (equal refl refl (c .before .before .before .before .if1 .left), upto refl refl (c .before .if2 .left), equal refl refl (c .if3 .left))
+returns-4 c =
+    let else-3 = c .before in
+    let else-2 = else-3 .before in
+    let after-clock-of = else-2 .before .before in
+    let else-1 = after-clock-of .before in
+    let after-level-at = else-1 .before .before in
+    rw (equal (ap (λ (v : Level). v .held) (after-level-at .level-at .ensures)) refl (else-1 .if1 .left), upto (ap (λ (v : Level). v .owed) (after-level-at .level-at .ensures)) (after-clock-of .clock-of .ensures) (else-2 .if2 .left), equal refl refl (else-3 .if3 .left), ap (λ (v : Level). v .owed) (after-level-at .level-at .ensures))
 
 pub numbers-fit-spec : {M : Type 1} → statement M
 numbers-fit-spec =
-    tie.close
-    (tie.spec
-    add-row
-    mul-row
-    add-if1
-    mul-if1
-    shared-slice-read-if1
-    cast-if1
-    returns
-    add-owed
-    mul-owed
-    shared-slice-read-owed
-    shared-slice-read-if2
-    returns-2
-    returns-3
-    returns-4)
+    tie.close (tie.spec level-at-requires returns clock-of-requires returns-2 returns-3 returns-4)

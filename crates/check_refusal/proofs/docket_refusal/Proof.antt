@@ -9,8 +9,9 @@ table-refusal-requires c κs = search needs
 
 returns : tie.Need-returns
 returns c =
-    let d = c .before .before .before .before in
-    refused-tables _ _ (d .args .lo) (d .args .hi) _ (c .before .table-refusal .ensures) (c .if1 .taken)
+    let after-table-refusal = c .before in
+    let entry = after-table-refusal .before .before .before in
+    refused-tables _ _ (entry .args .lo) (entry .args .hi) _ (after-table-refusal .table-refusal .ensures) (c .if1 .taken)
 
 returns-2 : tie.Need-returns-2
 returns-2 c = refused-high _ _ _ _ _ (c .before .before .table-refusal .ensures) (c .before .if1 .left) (c .if2 .taken)

@@ -25,7 +25,12 @@ row-fits-requires c κs = search needs
 
 returns-3 : tie.Need-returns-3
 unfolding slot-fits
-returns-3 c = rw (upto refl (c .before .before .before .before .slot-count .ensures) (c .before .before .before .if1 .left), equal (c .before .before .is-marked .ensures) refl (c .before .if2 .left)) (c .row-fits .ensures)
+returns-3 c =
+    let else-2 = c .before in
+    let after-is-marked = else-2 .before in
+    let else-1 = after-is-marked .before in
+    let after-slot-count = else-1 .before in
+    rw (upto refl (after-slot-count .slot-count .ensures) (else-1 .if1 .left), equal (after-is-marked .is-marked .ensures) refl (else-2 .if2 .left)) (c .row-fits .ensures)
 
 pub slot-fits-spec : {M : Type 1} → statement M
 slot-fits-spec =

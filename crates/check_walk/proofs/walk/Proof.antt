@@ -3,7 +3,7 @@ use Rattle.check_walk.proofs.Walks.{Going, slot-facts, walk-starts, wal
 use Rattle.check_walk.proofs.Unmarked.{unmarked-le}
 use Rattle.check_walk.specs.Walks.{unmarked}
 use Rattle.tables.specs.Sound.{chain-from}
-use Rattle.tables.specs.Words.{slots-of}
+use Rattle.tables.specs.Slots.{slots-of}
 use Prim.Native.Nat.{_+_, _*_}
 use borrow.Author.Needs.{needs}
 use native.Mathlib.Omega.{arith}
@@ -17,38 +17,98 @@ Inv-loop class e head owed marks₀ at₀ least₀ count₀ marks at least count
 abbrev μ-loop : tie.MeasureT-loop
 μ-loop class e head owed marks₀ at₀ least₀ count₀ marks at least count = unmarked (slots-of e) marks
 
+-- Where the code stands, seen from a later place.
+abbrev entry-of : tie.At-loop Inv-loop μ-loop → tie.Start Inv-loop μ-loop
+entry-of c = c .before .before .before
+
+abbrev in-turn-of : tie.After-slot-fits Inv-loop μ-loop → tie.In-loop Inv-loop μ-loop
+in-turn-of c = c .before .before
+
+abbrev turn-of : tie.In-loop Inv-loop μ-loop → tie.At-loop Inv-loop μ-loop
+turn-of c = c .before
+
+abbrev after-slot-fits-of : tie.Else1 Inv-loop μ-loop → tie.After-slot-fits Inv-loop μ-loop
+after-slot-fits-of c = c .before
+
+abbrev else-1-of : tie.After-order-key Inv-loop μ-loop → tie.Else1 Inv-loop μ-loop
+else-1-of c = c .before .before .before .before .before
+
+abbrev turn-of-2 : tie.After-order-key Inv-loop μ-loop → tie.At-loop Inv-loop μ-loop
+turn-of-2 c = else-1-of c .before .before .before .before
+
+abbrev else-1-of-2 : tie.After-mark Inv-loop μ-loop → tie.Else1 Inv-loop μ-loop
+else-1-of-2 c = c .before .before
+
 loop-holds : tie.Need-loop-holds Inv-loop μ-loop
 loop-holds c = walk-starts _ (c .before .before .pre .0)
 
 slot-fits-requires : tie.Need-slot-fits-requires Inv-loop μ-loop
-slot-fits-requires c κs = (c .before .before .before .before .before .pre .0, omega (arith, c .before .before .loop .inv .len))
+slot-fits-requires c κs =
+    let turn = c .before .before in
+    let entry = entry-of turn in
+    (entry .pre .0, omega (arith, turn .loop .inv .len))
 
 same-length : tie.Need-same-length Inv-loop μ-loop
 same-length c = search needs
 
 returns : tie.Need-returns Inv-loop μ-loop
-returns c = walk-fails (c .before .before .before .before .loop .inv) (c .before .before .before .loop-test .taken) (fails (c .before .slot-fits .ensures) (c .if1 .taken))
+returns c =
+    let after-slot-fits = c .before in
+    let in-turn = in-turn-of after-slot-fits in
+    let turn = turn-of in-turn in
+    walk-fails (turn .loop .inv) (in-turn .loop-test .taken) (fails (after-slot-fits .slot-fits .ensures) (c .if1 .taken))
 
 mark-requires : tie.Need-mark-requires Inv-loop μ-loop
-mark-requires c κs = let f = slot-facts (holds (c .before .before .slot-fits .ensures) (c .before .if1 .left)) in (omega (arith, c .before .before .before .before .before .loop .inv .len), f .blank)
+mark-requires c κs =
+    let else-1 = c .before in
+    let after-slot-fits = after-slot-fits-of else-1 in
+    let turn = after-slot-fits .before .before .before in
+    let f = slot-facts (holds (after-slot-fits .slot-fits .ensures) (else-1 .if1 .left)) in (omega (arith, turn .loop .inv .len), f .blank)
 
 order-key-requires : tie.Need-order-key-requires Inv-loop μ-loop
-order-key-requires c κs = let f = slot-facts (holds (c .before .before .before .before .before .slot-fits .ensures) (c .before .before .before .before .if1 .left)) in omega arith
+order-key-requires c κs =
+    let else-1 = c .before .before .before .before in
+    let after-slot-fits = after-slot-fits-of else-1 in
+    let f = slot-facts (holds (after-slot-fits .slot-fits .ensures) (else-1 .if1 .left)) in omega arith
 
 add-least : tie.Need-add-least Inv-loop μ-loop
-add-least c = omega (arith, c .before .before .before .before .before .before .before .before .before .before .before .shared-slice-known .given (4 * c .before .before .before .before .before .before .before .before .before .loop .at + 1))
+add-least c =
+    let turn = turn-of-2 c in
+    let after-shared-slice-known = turn .before .before in
+    omega (arith, after-shared-slice-known .shared-slice-known .given (4 * turn .loop .at + 1))
 
 add-count : tie.Need-add-count Inv-loop μ-loop
-add-count c = omega (arith, c .before .before .before .before .before .before .before .before .before .loop .inv .sum, unmarked-le (slots-of (c .before .before .before .before .before .before .before .before .before .before .before .before .args .e .now)) (c .before .before .before .before .before .before .before .before .before .before .before .before .args .marks .now))
+add-count c =
+    let turn = turn-of-2 c in
+    let entry = entry-of turn in
+    omega (arith, turn .loop .inv .sum, unmarked-le (slots-of (entry .args .e .now)) (entry .args .marks .now))
 
 next-of-requires : tie.Need-next-of-requires Inv-loop μ-loop
-next-of-requires c κs = let f = slot-facts (holds (c .before .before .before .before .before .before .slot-fits .ensures) (c .before .before .before .before .before .if1 .left)) in omega arith
+next-of-requires c κs =
+    let else-1 = else-1-of c in
+    let after-slot-fits = after-slot-fits-of else-1 in
+    let f = slot-facts (holds (after-slot-fits .slot-fits .ensures) (else-1 .if1 .left)) in omega arith
 
 loop-less : tie.Need-loop-less Inv-loop μ-loop
-loop-less c = rw (c .before .before .before .before .mark .ensures) (omega (arith, walk-less (c .before .before .before .before .before .before .before .before .before .before .loop .inv) (c .before .before .before .before .before .before .before .before .before .loop-test .taken) (c .before .before .before .before .before .before .before .before .before .before .before .before .before .pre .1) (holds (c .before .before .before .before .before .before .before .slot-fits .ensures) (c .before .before .before .before .before .before .if1 .left))))
+loop-less c =
+    let after-mark = c .before .before .before .before in
+    let else-1 = else-1-of-2 after-mark in
+    let after-slot-fits = after-slot-fits-of else-1 in
+    let in-turn = in-turn-of after-slot-fits in
+    let turn = turn-of in-turn in
+    let entry = entry-of turn in
+    rw (after-mark .mark .ensures) (omega (arith, walk-less (turn .loop .inv) (in-turn .loop-test .taken) (entry .pre .1) (holds (after-slot-fits .slot-fits .ensures) (else-1 .if1 .left))))
 
 loop-again : tie.Need-loop-again Inv-loop μ-loop
-loop-again c = rw (c .next-of .ensures, c .before .order-key .ensures, c .before .before .before .before .mark .ensures) (walk-goes (c .before .before .before .before .before .before .before .before .before .before .loop .inv) (c .before .before .before .before .before .before .before .before .before .loop-test .taken) (c .before .before .before .before .before .before .before .before .before .before .before .before .before .pre .1) (holds (c .before .before .before .before .before .before .before .slot-fits .ensures) (c .before .before .before .before .before .before .if1 .left)))
+loop-again c =
+    let after-order-key = c .before in
+    let after-mark = after-order-key .before .before .before in
+    let else-1 = else-1-of-2 after-mark in
+    let after-slot-fits = after-slot-fits-of else-1 in
+    let in-turn = in-turn-of after-slot-fits in
+    let turn = turn-of in-turn in
+    let entry = entry-of turn in
+    rw (c .next-of .ensures, after-order-key .order-key .ensures, after-mark .mark .ensures) (walk-goes (turn .loop .inv) (in-turn .loop-test .taken) (entry .pre .1) (holds (after-slot-fits .slot-fits .ensures) (else-1 .if1 .left)))
 
 same-length-2 : tie.Need-same-length-2 Inv-loop μ-loop
 same-length-2 c = search needs

@@ -1,9 +1,9 @@
--- `lookup::look_up` meets its contract. The loop's invariant: the levels that are left give what all levels give.
+-- The loop keeps: the levels that are left give what all levels give.
 use mathlib.Core.Path.{_≡_, refl, sym, _∙_}
 use Prim.Native.Nat.{_+_, _-_, _≤_}
 use native.Mathlib.Omega.{arith}
 use Rattle.model.specs.Lookup.{lookup}
-use Rattle.tables.specs.Words.{settings-of}
+use Rattle.tables.specs.Rows.{settings-of}
 use Rattle.tables.specs.Placed.{read-state}
 use Rattle.lookup.proofs.Levels.{look-from, look-all, look-none, look-next}
 use Rattle.lookup.proofs.look_up.Statement.{statement}
@@ -17,47 +17,58 @@ Inv-loop e l docket levels left₀ left =
 abbrev μ-loop : tie.MeasureT-loop
 μ-loop e l docket levels left₀ left = left
 
-shared-slice-read-levels : tie.Need-shared-slice-read-levels Inv-loop μ-loop
-shared-slice-read-levels c = omega (arith, c .before .before .before .pre .rows)
+-- Where the code stands, seen from a later place.
+abbrev entry-of : tie.At-loop Inv-loop μ-loop → tie.Start Inv-loop μ-loop
+entry-of c = c .before .before .before .before
 
-cast-levels : tie.Need-cast-levels Inv-loop μ-loop
-cast-levels c = omega (arith, c .before .before .before .pre .shallow)
+deepest-of-requires : tie.Need-deepest-of-requires Inv-loop μ-loop
+deepest-of-requires c κs = omega (arith, c .before .before .pre .rows)
 
 add-levels : tie.Need-add-levels Inv-loop μ-loop
-add-levels c = omega (arith, c .before .before .before .pre .shallow)
+add-levels c = omega (arith, c .deepest-of .ensures, c .before .before .before .pre .shallow)
 
 loop-holds : tie.Need-loop-holds Inv-loop μ-loop
-loop-holds c =
-    let a = c .before .before .before .args in
-    (omega arith, refl, look-all (a .e .now) (a .l .now) (a .docket) _ _ refl (omega arith))
+loop-holds c = (omega arith, omega (arith, c .deepest-of .ensures), look-all (c .before .before .before .args .e .now) (c .before .before .before .args .l .now) (c .before .before .before .args .docket) _ _ (omega (arith, c .deepest-of .ensures)) (omega arith))
 
 sub-level : tie.Need-sub-level Inv-loop μ-loop
 sub-level c = omega arith
 
 look-level-requires : tie.Need-look-level-requires Inv-loop μ-loop
-look-level-requires c κs = (c .before .before .before .before .before .pre, omega arith)
+look-level-requires c κs =
+    let turn = c .before in
+    let entry = entry-of turn in
+    (entry .pre, omega (arith, turn .loop .inv .1))
 
 enum-known-tally : tie.Need-enum-known-tally Inv-loop μ-loop
 enum-known-tally c = c .match .keys1
 
 returns : tie.Need-returns Inv-loop μ-loop
 returns c =
-    let a = c .before .before .before .before .before .before .before .before .before .args in
+    let after-tally = c .before in
+    let after-look-level = after-tally .before .before in
+    let in-turn = after-look-level .before in
+    let turn = in-turn .before in
+    let entry = entry-of turn in
+    let a = entry .args in
     sym
-    (look-next (a .e .now) (a .l .now) (a .docket) _ _ _ _ _ (c .before .before .before .before .loop-test .taken) refl
-    (c .before .before .before .look-level .ensures) (c .before .tally .given .1))
-    ∙ c .before .before .before .before .before .loop .inv .2
+    (look-next (a .e .now) (a .l .now) (a .docket) _ _ _ _ _ (in-turn .loop-test .taken) refl
+    (after-look-level .look-level .ensures) (after-tally .tally .given .1))
+    ∙ turn .loop .inv .2
 
 enum-told : tie.Need-enum-told Inv-loop μ-loop
 enum-told c = c .match .keys2
 
 returns-2 : tie.Need-returns-2 Inv-loop μ-loop
 returns-2 c =
-    let a = c .before .before .before .before .before .before .before .before .args in
+    let after-look-level = c .before .before in
+    let in-turn = after-look-level .before in
+    let turn = in-turn .before in
+    let entry = entry-of turn in
+    let a = entry .args in
     sym
-    (look-next (a .e .now) (a .l .now) (a .docket) _ _ _ _ _ (c .before .before .before .loop-test .taken) refl
-    (c .before .before .look-level .ensures) (c .enum-told .given .1))
-    ∙ c .before .before .before .before .loop .inv .2
+    (look-next (a .e .now) (a .l .now) (a .docket) _ _ _ _ _ (in-turn .loop-test .taken) refl
+    (after-look-level .look-level .ensures) (c .enum-told .given .1))
+    ∙ turn .loop .inv .2
 
 enum-told-2 : tie.Need-enum-told-2 Inv-loop μ-loop
 enum-told-2 c = c .match .keys3
@@ -70,19 +81,18 @@ loop-less c = omega arith
 
 loop-again : tie.Need-loop-again Inv-loop μ-loop
 loop-again c =
-    let a = c .before .before .before .before .before .before .before .before .args in (
-      omega arith,
-      refl,
-      sym
-          (look-next (a .e .now) (a .l .now) (a .docket) _ _ _ _ _ (c .before .before .before .loop-test .taken) (omega arith)
-          (c .before .before .look-level .ensures) (c .enum-told2 .given .1))
-          ∙ c .before .before .before .before .loop .inv .2,
-    )
+    let after-look-level = c .before .before in
+    let in-turn = after-look-level .before in
+    let turn = in-turn .before in
+    let entry = entry-of turn in
+    (omega arith, turn .loop .inv .1, sym (look-next (entry .args .e .now) (entry .args .l .now) (entry .args .docket) _ _ _ _ _ (in-turn .loop-test .taken) (omega arith) (after-look-level .look-level .ensures) (c .enum-told2 .given .1)) ∙ turn .loop .inv .2)
 
 returns-3 : tie.Need-returns-3 Inv-loop μ-loop
 returns-3 c =
-    let a = c .before .before .before .before .before .args in
-    sym (look-none (a .e .now) (a .l .now) (a .docket) _ _ (c .loop-test .left)) ∙ c .before .loop .inv .2
+    let turn = c .before in
+    let entry = entry-of turn in
+    let a = entry .args in
+    sym (look-none (a .e .now) (a .l .now) (a .docket) _ _ (c .loop-test .left)) ∙ turn .loop .inv .2
 
 pub look-up-spec : {M : Type 1} → statement M
 look-up-spec =
@@ -90,8 +100,7 @@ look-up-spec =
     (tie.spec
     Inv-loop
     μ-loop
-    shared-slice-read-levels
-    cast-levels
+    deepest-of-requires
     add-levels
     loop-holds
     sub-level

@@ -17,8 +17,10 @@ returns c = refused _ _ _ _ (c .before .docket-refusal .ensures) (c .if1 .taken)
 
 look-up-requires : tie.Need-look-up-requires
 look-up-requires c κs =
-    let k = c .before .before .before .before .args .docket in
-    readable _ _ (allowed-sound _ _ k k (sym (c .before .docket-refusal .ensures) ∙ c .if1 .left))
+    let after-docket-refusal = c .before in
+    let entry = after-docket-refusal .before .before .before in
+    let k = entry .args .docket in
+    readable _ _ (allowed-sound _ _ k k (sym (after-docket-refusal .docket-refusal .ensures) ∙ c .if1 .left))
 
 enum-told : tie.Need-enum-told
 enum-told c = search needs
@@ -28,15 +30,20 @@ enum-known-tally c = search needs
 
 returns-2 : tie.Need-returns-2
 returns-2 c =
-    let d = c .before .before .before in
-    looked-up _ _ _ _ (d .before .docket-refusal .ensures) (d .if1 .left) (c .before .before .look-up .result) (c .before .before .look-up .ensures) _
+    let after-look-up = c .before .before in
+    let else-1 = after-look-up .before in
+    let after-docket-refusal = else-1 .before in
+    looked-up _ _ _ _ (after-docket-refusal .docket-refusal .ensures) (else-1 .if1 .left) (after-look-up .look-up .result) (after-look-up .look-up .ensures) _
     (ap (λ f. answered (found-of f)) (c .enum-told .given .1))
 
 returns-3 : tie.Need-returns-3
 returns-3 c =
-    let d = c .before .before .before .before in
-    looked-up _ _ _ _ (d .before .docket-refusal .ensures) (d .if1 .left) (c .before .before .before .look-up .result) (c .before .before .before .look-up .ensures) _
-    (ap (λ f. answered (found-of f)) (c .before .tally .given .1))
+    let after-tally = c .before in
+    let after-look-up = after-tally .before .before in
+    let else-1 = after-look-up .before in
+    let after-docket-refusal = else-1 .before in
+    looked-up _ _ _ _ (after-docket-refusal .docket-refusal .ensures) (else-1 .if1 .left) (after-look-up .look-up .result) (after-look-up .look-up .ensures) _
+    (ap (λ f. answered (found-of f)) (after-tally .tally .given .1))
 
 pub lookup-spec : {M : Type 1} → statement M
 lookup-spec = tie.close (tie.spec docket-refusal-requires returns look-up-requires enum-told enum-known-tally returns-2 returns-3)

@@ -2,7 +2,7 @@
 use native.Mathlib.Omega.{arith}
 use borrow.Author.Tests.{eq-eqb, ne-eqb}
 use borrow.Author.Needs.{needs}
-use Rattle.tables.specs.Words.{kind-of}
+use Rattle.tables.specs.Slots.{kind-of}
 use Rattle.lookup_level.proofs.tell.Statement.{statement}
 use Rattle.lookup_level.proofs.tell.Tie as tie
 

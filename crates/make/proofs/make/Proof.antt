@@ -1,13 +1,14 @@
--- `make::make` meets its contract: its tests are those of `make-tables`, in that order, and it writes only past the last.
-use Prim.Native.Nat.{_+_, _*_}
+-- Each return is one case of the definition: refusals 1, 6 and 2, and the made store.
 use mathlib.Core.Path.{sym, ap, _∙_}
-use native.Mathlib.Omega.{arith}
-use borrow.Author.Needs.{needs}
 use borrow.Author.Tests.{not-true, not-false}
 use Rattle.settings.specs.declared.Settings.{Settings}
+use Rattle.settings.proofs.Answers.{accepted-same, accepted-settings, refused-settings}
+use Rattle.lists.proofs.Branches.{fails, holds}
+use Rattle.tables.specs.Slots.{entry-length}
+use Rattle.tables.specs.Rows.{level-length}
 use Rattle.tables.proofs.Lengths.{entries-facts}
 use Rattle.make.proofs.Answers.{made-not-fitting, made-not-allowed, made-other-length, made-accepted}
-use Rattle.settings.proofs.Answers.{refused-settings, accepted-settings, accepted-same}
+use borrow.Author.Needs.{needs}
 use Rattle.make.proofs.make.Statement.{statement}
 use Rattle.make.proofs.make.Tie as tie
 
@@ -18,7 +19,7 @@ same-length : tie.Need-same-length
 same-length c = search needs
 
 returns : tie.Need-returns
-returns c = sym (made-not-fitting _ _ _ (sym (c .before .entries-fit .ensures) ∙ not-true _ (c .if1 .taken)))
+returns c = sym (made-not-fitting _ _ _ (fails (c .before .entries-fit .ensures) (c .if1 .taken)))
 
 new-requires : tie.Need-new-requires
 new-requires c κs = search needs
@@ -33,46 +34,25 @@ same-length-2 : tie.Need-same-length-2
 same-length-2 c = search needs
 
 returns-2 : tie.Need-returns-2
-returns-2 c =
-    let called = c .before .before in
-    let fits = sym (called .before .before .entries-fit .ensures) ∙ not-false _ (called .before .if1 .left) in
-    let refused = refused-settings _ _ (sym (called .new .ensures) ∙ c .enum-told .given .1) in
-    sym (made-not-allowed _ _ _ fits refused)
+returns-2 c = sym (made-not-allowed _ _ _ (holds (c .before .before .before .before .entries-fit .ensures) (c .before .before .before .if1 .left)) (refused-settings _ _ (sym (c .before .before .new .ensures) ∙ c .enum-told .given .1)))
 
-add-if2 : tie.Need-add-if2
-add-if2 c = search needs
-
-mul-if2 : tie.Need-mul-if2
-mul-if2 c = search needs
+level-length-requires : tie.Need-level-length-requires
+level-length-requires c κs = search needs
 
 same-length-3 : tie.Need-same-length-3
 same-length-3 c = search needs
 
 returns-3 : tie.Need-returns-3
-returns-3 c =
-    let called = c .before .before .before .before in
-    let fits = sym (called .before .before .entries-fit .ensures) ∙ not-false _ (called .before .if1 .left) in
-    let accepted = accepted-settings _ _ (sym (called .new .ensures) ∙ c .before .before .checked .given .1) in
-    sym (made-other-length _ _ _ fits accepted (c .if2 .taken))
+returns-3 c = sym (made-other-length _ _ _ (holds (c .before .before .before .before .before .before .before .entries-fit .ensures) (c .before .before .before .before .before .before .if1 .left)) (accepted-settings _ _ (sym (c .before .before .before .before .before .new .ensures) ∙ c .before .before .before .checked .given .1)) (λ q. c .if2 .taken (q ∙ sym (c .before .level-length .ensures))))
 
-sub-slots : tie.Need-sub-slots
-sub-slots c =
-    let called = c .before .before .before .before in
-    let fits = sym (called .before .before .entries-fit .ensures) ∙ not-false _ (called .before .if1 .left) in
-    omega (arith, entries-facts _ fits)
+slot-count-requires : tie.Need-slot-count-requires
+slot-count-requires c κs = search needs
 
 free-slots-requires : tie.Need-free-slots-requires
-free-slots-requires c κs =
-    let called = c .before .before .before .before .before in
-    let fits = sym (called .before .before .entries-fit .ensures) ∙ not-false _ (called .before .if1 .left) in
-    (entries-facts _ fits .number, entries-facts _ fits .slots-high)
+free-slots-requires c κs = let f = entries-facts _ (holds (c .before .before .before .before .before .before .before .before .before .before .entries-fit .ensures) (c .before .before .before .before .before .before .before .before .before .if1 .left)) in (f .number ∙ ap entry-length (sym (c .before .slot-count .ensures)), rw (c .before .slot-count .ensures) (f .slots-high))
 
 lay-levels-requires : tie.Need-lay-levels-requires
-lay-levels-requires c κs =
-    let tested = c .before .before .before .before .before in
-    let called = tested .before .before .before .before in
-    let same = accepted-same _ _ (sym (called .new .ensures) ∙ tested .before .before .checked .given .1) in
-    tested .if2 .left ∙ ap (λ (s : Settings). 4 * (s .deepest + 2)) (sym same)
+lay-levels-requires c κs = c .before .before .before .before .before .before .before .if2 .left ∙ c .before .before .before .before .before .before .before .before .level-length .ensures ∙ ap (λ (s : Settings). level-length (s .deepest)) (sym (accepted-same _ _ (sym (c .before .before .before .before .before .before .before .before .before .before .before .before .new .ensures) ∙ c .before .before .before .before .before .before .before .before .before .before .checked .given .1)))
 
 same-length-4 : tie.Need-same-length-4
 same-length-4 c = search needs
@@ -81,14 +61,7 @@ same-length-5 : tie.Need-same-length-5
 same-length-5 c = search needs
 
 returns-4 : tie.Need-returns-4
-returns-4 c =
-    let freed = c .before .before .before .before .before .before in
-    let tested = freed .before .before in
-    let called = tested .before .before .before .before in
-    let fits = sym (called .before .before .entries-fit .ensures) ∙ not-false _ (called .before .if1 .left) in
-    let checked = sym (called .new .ensures) ∙ tested .before .before .checked .given .1 in
-    rw (freed .free-slots .ensures, c .before .before .lay-levels .ensures, accepted-same _ _ checked)
-    (sym (made-accepted _ _ _ fits (accepted-settings _ _ checked) (tested .if2 .left)))
+returns-4 c = let checked = sym (c .before .before .before .before .before .before .before .before .before .before .before .before .before .before .before .new .ensures) ∙ c .before .before .before .before .before .before .before .before .before .before .before .before .before .checked .given .1 in rw (c .before .before .before .before .before .before .free-slots .ensures, c .before .before .lay-levels .ensures, accepted-same _ _ checked, c .before .before .before .before .before .before .before .before .slot-count .ensures) (sym (made-accepted _ _ _ (holds (c .before .before .before .before .before .before .before .before .before .before .before .before .before .before .before .before .before .entries-fit .ensures) (c .before .before .before .before .before .before .before .before .before .before .before .before .before .before .before .before .if1 .left)) (accepted-settings _ _ checked) (c .before .before .before .before .before .before .before .before .before .before .if2 .left ∙ c .before .before .before .before .before .before .before .before .before .before .before .level-length .ensures)))
 
 pub make-spec : {M : Type 1} → statement M
 make-spec =
@@ -102,11 +75,10 @@ make-spec =
     enum-told
     same-length-2
     returns-2
-    add-if2
-    mul-if2
+    level-length-requires
     same-length-3
     returns-3
-    sub-slots
+    slot-count-requires
     free-slots-requires
     lay-levels-requires
     same-length-4

@@ -1,68 +1,48 @@
--- `make_fresh::lay_levels` meets its contract. The invariant: the rows before `row` are those of the table made with the settings
--- that stand in the first row.
-use Prim.Native.Nat.{_-_, _*_, _/_, _≤_}
-use mathlib.Core.Path.{_≡_, sym, ap, _∙_}
+-- The loop keeps: the settings stand in the first row, and the rows before `i` are those of the made table.
+use mathlib.Core.Path.{_≡_, sym, _∙_}
+use borrow.Author.Needs.{needs}
+use Prim.Native.Nat.{_+_, _-_, _≤_}
 use native.Mathlib.Omega.{arith}
-use lib.ListN.{length}
-use Rattle.tables.specs.Words.{settings-of}
+use Rattle.tables.specs.Rows.{settings-of, no-row}
+use Rattle.tables.proofs.Rows.{length-set-settings, settings-same, settings-stay}
 use Rattle.make_fresh.specs.Fresh.{made-levels}
-use Rattle.tables.proofs.Rows.{length-set-row}
-use Rattle.make_fresh.proofs.Rows.{Agree, agree-next, agree-all}
-use Rattle.make_fresh.proofs.Levels.{first-length, first-settings, first-agrees, made-levels-later}
+use Rattle.make_fresh.proofs.Parts.{Agree, agree-none, agree-next}
+use Rattle.make_fresh.proofs.Levels.{row-parts, length-made-levels, made-levels-row, levels-made}
 use Rattle.make_fresh.proofs.lay_levels.Statement.{statement}
 use Rattle.make_fresh.proofs.lay_levels.Tie as tie
 
 abbrev Inv-loop : tie.InvT-loop
-Inv-loop levels₀ rows row₀ levels row =
-    (1 ≤ row) × (row ≤ rows) × (length levels ≡ 4 * rows) × Agree (made-levels (settings-of levels₀)) row levels
+Inv-loop levels₀ s i₀ levels i = (i ≤ s .deepest + 1) × (settings-of levels ≡ s) × Agree row-parts (made-levels s) i levels
 
 abbrev μ-loop : tie.MeasureT-loop
-μ-loop levels₀ rows row₀ levels row = rows - row
+μ-loop levels₀ s i₀ levels i = s .deepest + 1 - i
 
-set-row-requires : tie.Need-set-row-requires Inv-loop μ-loop
-set-row-requires c κs = omega arith
+set-settings-requires : tie.Need-set-settings-requires Inv-loop μ-loop
+set-settings-requires c κs = omega arith
 
 loop-holds : tie.Need-loop-holds Inv-loop μ-loop
-loop-holds c =
-    let start = c .before .before .before .before .before in
-    let set = c .before .before .set-row .ensures in
-    let size = first-length (start .args .s) _ _ (start .pre) set in
-    (omega arith, omega arith, omega arith, first-agrees (start .args .s) _ _ (start .pre) set)
+loop-holds c = (omega arith, rw (c .before .before .set-settings .ensures) (settings-same _ _ (omega arith)), agree-none row-parts _ _ (rw (c .before .before .set-settings .ensures) (length-set-settings _ _ ∙ c .before .before .before .before .before .pre ∙ sym (length-made-levels (c .before .before .before .before .before .args .s)))))
 
-set-row-requires-2 : tie.Need-set-row-requires-2 Inv-loop μ-loop
-set-row-requires-2 c κs = omega (arith, c .before .before .loop .inv .2)
+cast-if1 : tie.Need-cast-if1 Inv-loop μ-loop
+cast-if1 c = search needs
 
-add-row : tie.Need-add-row Inv-loop μ-loop
-add-row c = omega arith
+clear-level-requires : tie.Need-clear-level-requires Inv-loop μ-loop
+clear-level-requires c κs = omega (arith, c .before .before .before .loop .inv .2 .size, length-made-levels (c .before .before .before .before .before .before .before .before .before .args .s))
+
+add-i : tie.Need-add-i Inv-loop μ-loop
+add-i c = omega arith
 
 loop-less : tie.Need-loop-less Inv-loop μ-loop
 loop-less c = omega arith
 
 loop-again : tie.Need-loop-again Inv-loop μ-loop
-loop-again c =
-    let l = c .before .before .before .before .before .loop in
-    let set = c .before .before .set-row2 .ensures in (
-      omega arith,
-      omega arith,
-      rw (set, length-set-row) (l .inv .2),
-      rw set
-          (agree-next _ _ (l .row) _ (l .inv .3) (omega (arith, l .inv .2, l .inv .3 .size)) (made-levels-later _ (l .row) (l .inv .0))),
-    )
+loop-again c = (omega arith, rw (c .before .before .clear-level .ensures) (settings-stay _ _ _ ∙ c .before .before .before .before .before .before .loop .inv .1), rw (c .before .before .clear-level .ensures) (agree-next row-parts _ _ (c .before .before .before .before .before .before .loop .i) no-row (c .before .before .before .before .before .before .loop .inv .2) (omega (arith, c .before .before .before .before .before .before .loop .inv .2 .size, length-made-levels (c .before .before .before .before .before .before .before .before .before .before .before .before .args .s))) (made-levels-row (c .before .before .before .before .before .before .before .before .before .before .before .before .args .s) (c .before .before .before .before .before .before .loop .i) (omega arith))))
 
 same-length : tie.Need-same-length Inv-loop μ-loop
-same-length c =
-    let start = c .before .before .before .before .before .before .before in
-    let set = c .before .before .before .before .set-row .ensures in
-    omega (arith, c .before .loop .inv .2, first-length (start .args .s) _ _ (start .pre) set)
+same-length c = omega (arith, c .before .before .loop .inv .2 .size, length-made-levels (c .before .before .before .before .before .before .before .before .args .s))
 
 returns : tie.Need-returns Inv-loop μ-loop
-returns c =
-    let start = c .before .before .before .before .before .before .before in
-    let call = c .before .before .before .before .set-row in
-    let l = c .before .loop in
-    let q : l .row ≡ length (call .last .0) / 4 = omega arith in
-    agree-all _ _ _ (sym (l .inv .3 .size) ∙ l .inv .2) (rw q at (l .inv .3))
-    ∙ ap made-levels (first-settings (start .args .s) _ _ (start .pre) (call .ensures))
+returns c = let q : c .before .before .loop .i ≡ c .before .before .before .before .before .before .before .before .args .s .deepest + 1 = omega arith in levels-made (c .before .before .before .before .before .before .before .before .args .s) _ (c .before .before .loop .inv .1) (rw q at (c .before .before .loop .inv .2))
 
 pub lay-levels-spec : {M : Type 1} → statement M
 lay-levels-spec =
@@ -70,10 +50,11 @@ lay-levels-spec =
     (tie.spec
     Inv-loop
     μ-loop
-    set-row-requires
+    set-settings-requires
     loop-holds
-    set-row-requires-2
-    add-row
+    cast-if1
+    clear-level-requires
+    add-i
     loop-less
     loop-again
     same-length

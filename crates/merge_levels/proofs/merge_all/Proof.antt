@@ -23,22 +23,35 @@ abbrev μ-loop : tie.MeasureT-loop
 abbrev AtEntry : tie.Start Inv-loop μ-loop → Store → Type 0
 AtEntry c g = Laid g (c .args .e .now) (c .args .l .now)
 
-slice-read-deepest : tie.Need-slice-read-deepest Inv-loop μ-loop
-slice-read-deepest c = let start = c .before .before .before in omega (arith, laid-length (start .pre .value) (start .args .e .now) (start .args .l .now) (start .pre .has))
+-- Where the code stands, seen from a later place.
+abbrev in-turn-of : tie.After-merge-level Inv-loop μ-loop → tie.In-loop Inv-loop μ-loop
+in-turn-of c = c .before .before .before
 
-cast-deepest : tie.Need-cast-deepest Inv-loop μ-loop
-cast-deepest c = omega (arith, c .slice-known3 .given 0)
+abbrev after-merge-level-of : tie.After-slice-known4 Inv-loop μ-loop → tie.After-merge-level Inv-loop μ-loop
+after-merge-level-of c = c .before .before .before .before
+
+deepest-of-requires : tie.Need-deepest-of-requires Inv-loop μ-loop
+deepest-of-requires c κs =
+    let entry = c .before .before .before in
+    omega (arith, laid-length (entry .pre .value) (entry .args .e .now) (entry .args .l .now) (entry .pre .has))
 
 loop-holds : tie.Need-loop-holds Inv-loop μ-loop
-loop-holds c = let a = c .before .before .before .args in (refl, refl, λ g laid. merge-all-begun g (a .e .now) (a .l .now) laid)
+loop-holds c =
+    let entry = c .before .before .before .before in
+    let a = entry .args in (refl, refl, λ g laid. merge-all-begun g (a .e .now) (a .l .now) laid)
 
 -- A turn's level is above the deepest of every such store.
-in-turn : (c : tie.In-loop Inv-loop μ-loop) (g : Store) → AtEntry (c .before .before .before .before .before) g → c .before .loop .i < g .state .settings .deepest
-in-turn c g laid = let a = c .before .before .before .before .before .args in omega (arith, c .loop-test .taken, laid-deepest g (a .e .now) (a .l .now) laid)
+abbrev entry-of : tie.At-loop Inv-loop μ-loop → tie.Start Inv-loop μ-loop
+entry-of c = c .before .before .before .before .before
+
+in-turn : (c : tie.In-loop Inv-loop μ-loop) (g : Store) → AtEntry (entry-of (c .before)) g → c .before .loop .i < g .state .settings .deepest
+in-turn c g laid =
+    let a = entry-of (c .before) .args in
+    omega (arith, c .loop-test .taken, c .before .before .deepest-of .ensures, laid-deepest g (a .e .now) (a .l .now) laid)
 
 merge-level-requires : tie.Need-merge-level-requires Inv-loop μ-loop
 merge-level-requires c κs =
-    let start = c .before .before .before .before .before .before .before in
+    let start = entry-of (c .before .before .before) in
     let w = c .before .before .before .loop .inv .2 (start .pre .value) (start .pre .has) in
     record { value = reached-store w; has = (w .worked .laid, reached-level w (in-turn (c .before .before) (start .pre .value) (start .pre .has))) }
 
@@ -46,7 +59,7 @@ abbrev turn : tie.After-merge-level Inv-loop μ-loop → tie.At-loop Inv-loop μ
 turn c = c .before .before .before .before
 
 -- A turn taken, for every such store: what was reached before it, and the merge of its level.
-module _ (c : tie.After-merge-level Inv-loop μ-loop) (g : Store) (laid : AtEntry (turn c .before .before .before .before) g) where
+module _ (c : tie.After-merge-level Inv-loop μ-loop) (g : Store) (laid : AtEntry (entry-of (turn c)) g) where
   reached : Reached merge-level (merge-all (g .state)) g (turn c .loop .e) (turn c .loop .l) (turn c .loop .merges) (turn c .loop .i)
   reached = turn c .loop .inv .2 g laid
 
@@ -56,30 +69,37 @@ module _ (c : tie.After-merge-level Inv-loop μ-loop) (g : Store) (laid : AtEntr
 -- The level of a turn is one of the first six, and there are no more merges than levels.
 shallow : (c : tie.In-loop Inv-loop μ-loop) → c .before .loop .i < 6
 shallow c =
-    let start = c .before .before .before .before .before in
+    let start = entry-of (c .before) in
     omega (arith, in-turn c (start .pre .value) (start .pre .has), laid-allowed (start .pre .value) (start .args .e .now) (start .args .l .now) (start .pre .has))
 
 few : (c : tie.After-merge-level Inv-loop μ-loop) → turn c .loop .merges + c .merge-level .result ≤ turn c .loop .i + 1
 few c =
-    let start = turn c .before .before .before .before in
+    let start = entry-of (turn c) in
     let g = start .pre .value in
     few-more merge-counts (reached c g (start .pre .has)) (in-turn (c .before .before .before) g (start .pre .has)) (done c g (start .pre .has))
 
 add-merges : tie.Need-add-merges Inv-loop μ-loop
-add-merges c = omega (arith, few (c .before .before .before .before), shallow (c .before .before .before .before .before .before .before))
+add-merges c =
+    let after-merge-level = after-merge-level-of c in
+    let tested = in-turn-of after-merge-level in
+    omega (arith, few (after-merge-level), shallow tested)
 
 add-i : tie.Need-add-i Inv-loop μ-loop
-add-i c = omega (arith, shallow (c .before .before .before .before .before .before .before))
+add-i c =
+    let tested = in-turn-of (c .before .before .before .before) in
+    omega (arith, shallow tested)
 
 loop-less : tie.Need-loop-less Inv-loop μ-loop
 loop-less c = search needs
 
 loop-again : tie.Need-loop-again Inv-loop μ-loop
-loop-again c = (
-  search needs,
-  search needs,
-  λ g laid. reached-next merge-counts (reached (c .before .before .before .before) g laid) (in-turn (c .before .before .before .before .before .before .before) g laid) (done (c .before .before .before .before) g laid),
-)
+loop-again c =
+    let after-merge-level = after-merge-level-of c in
+    let tested = in-turn-of after-merge-level in (
+      search needs,
+      search needs,
+      λ g laid. reached-next merge-counts (reached after-merge-level g laid) (in-turn tested g laid) (done after-merge-level g laid),
+    )
 
 same-length : tie.Need-same-length Inv-loop μ-loop
 same-length c = search needs
@@ -89,8 +109,8 @@ same-length-2 c = search needs
 
 returns : tie.Need-returns Inv-loop μ-loop
 returns c = λ g laid.
-    let a = c .before .before .before .before .before .args in
-    reached-end (c .before .loop .inv .2 g laid) (omega (arith, c .loop-test .left, laid-deepest g (a .e .now) (a .l .now) laid))
+    let a = entry-of (c .before) .args in
+    reached-end (c .before .loop .inv .2 g laid) (omega (arith, c .loop-test .left, c .before .before .deepest-of .ensures, laid-deepest g (a .e .now) (a .l .now) laid))
 
 pub merge-all-spec : {M : Type 1} → statement M
 merge-all-spec =
@@ -98,8 +118,7 @@ merge-all-spec =
     (tie.spec
     Inv-loop
     μ-loop
-    slice-read-deepest
-    cast-deepest
+    deepest-of-requires
     loop-holds
     merge-level-requires
     add-merges

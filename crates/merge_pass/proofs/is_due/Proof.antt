@@ -6,7 +6,7 @@ use native.Mathlib.Omega.{arith}
 use Rattle.settings.specs.declared.Settings.{Settings}
 use Rattle.settings.specs.Limits.{capacity}
 use Rattle.settings.proofs.Allowed.{inner-bounds}
-use Rattle.tables.specs.Words.{settings-of, level-row}
+use Rattle.tables.specs.Rows.{settings-of, level-row}
 use Rattle.merge_levels.proofs.Store.{held-read, owed-read}
 use Rattle.merge_pass.proofs.Due.{due-over, due-owing-none, due-owing}
 use Rattle.merge_pass.proofs.is_due.Statement.{statement}
@@ -35,14 +35,14 @@ entry c = c .before .before .before
 capacity-is : (c : tie.After-inner-capacity) → c .inner-capacity .result ≡ capacity (settings-of (entry (c .before) .args .l .now)) (entry (c .before) .args .i)
 capacity-is c = c .inner-capacity .ensures ∙ ap (λ (s : Settings). capacity s (entry (c .before) .args .i)) (c .before .before .settings-of .ensures)
 
-held-is : (c : tie.After-level-at) → c .level-at .result .held ≡ level-row (entry c .args .l .now) (entry c .args .i) .w2
+held-is : (c : tie.After-level-at) → c .level-at .result .held ≡ level-row (entry c .args .l .now) (entry c .args .i) .held
 held-is c = let a = entry c .args in held-read (c .level-at .result) (a .l .now) (a .i) (c .level-at .ensures)
 
-owed-is : (c : tie.After-level-at) → c .level-at .result .owed ≡ level-row (entry c .args .l .now) (entry c .args .i) .w3
+owed-is : (c : tie.After-level-at) → c .level-at .result .owed ≡ level-row (entry c .args .l .now) (entry c .args .i) .owed
 owed-is c = let a = entry c .args in owed-read (c .level-at .result) (a .l .now) (a .i) (c .level-at .ensures)
 
 -- No more than its capacity.
-within : (c : tie.Else1) → level-row (entry (c .before .before) .args .l .now) (entry (c .before .before) .args .i) .w2 ≤ capacity (settings-of (entry (c .before .before) .args .l .now)) (entry (c .before .before) .args .i)
+within : (c : tie.Else1) → level-row (entry (c .before .before) .args .l .now) (entry (c .before .before) .args .i) .held ≤ capacity (settings-of (entry (c .before .before) .args .l .now)) (entry (c .before .before) .args .i)
 within c = omega (arith, c .if1 .left, capacity-is (c .before), held-is (c .before .before))
 
 returns : tie.Need-returns

@@ -1,6 +1,6 @@
 -- `merge_pass::pass` meets its contract. The loop's invariant: the pass from level i on leads to what the whole pass leads to.
 use borrow.Author.Needs.{needs}
-use mathlib.Core.Path.{_≡_, refl, sym}
+use mathlib.Core.Path.{_≡_, refl, sym, _∙_}
 use Prim.Native.Nat.{ℕ, _+_, _-_, _<_, _≤_}
 use native.Mathlib.Omega.{arith}
 use lib.ListN.{length}
@@ -25,34 +25,40 @@ abbrev μ-loop : tie.MeasureT-loop
 abbrev AtEntry : tie.Start Inv-loop μ-loop → Store → Type 0
 AtEntry c g = Laid g (c .args .e .now) (c .args .l .now) × (g .time ≡ c .args .clock)
 
-slice-read-deepest : tie.Need-slice-read-deepest Inv-loop μ-loop
-slice-read-deepest c = let start = c .before .before .before in omega (arith, laid-length (start .pre .value) (start .args .e .now) (start .args .l .now) (start .pre .has .0))
-
-cast-deepest : tie.Need-cast-deepest Inv-loop μ-loop
-cast-deepest c = omega (arith, c .slice-known3 .given 0)
+deepest-of-requires : tie.Need-deepest-of-requires Inv-loop μ-loop
+deepest-of-requires c κs =
+    let start = c .before .before .before in
+    omega (arith, laid-length (start .pre .value) (start .args .e .now) (start .args .l .now) (start .pre .has .0))
 
 pass-buffer-requires : tie.Need-pass-buffer-requires Inv-loop μ-loop
-pass-buffer-requires c κs = let start = c .before .before .before .before .before in record { value = start .pre .value; has = start .pre .has .0 }
+pass-buffer-requires c κs = let start = c .before .before .before .before .before .before in record { value = start .pre .value; has = start .pre .has .0 }
 
 loop-holds : tie.Need-loop-holds Inv-loop μ-loop
 loop-holds c = (refl, refl, omega arith, λ g goal now deep w. w)
 
+-- Where the code stood before a turn: the buffer's part done, the deepest level read, and the entry.
+abbrev buffered : tie.At-loop Inv-loop μ-loop → tie.After-pass-buffer Inv-loop μ-loop
+buffered c = c .before .before .before .before .before
+
+abbrev deepest-read : tie.At-loop Inv-loop μ-loop → tie.After-deepest-of Inv-loop μ-loop
+deepest-read c = buffered c .before .before .before
+
 abbrev entry : tie.At-loop Inv-loop μ-loop → tie.Start Inv-loop μ-loop
-entry c = c .before .before .before .before .before .before .before .before .before .before .before
+entry c = deepest-read c .before .before .before .before
 
 -- The pass of every such store has gone on to level i.
 reached : (c : tie.At-loop Inv-loop μ-loop) (g : Store) → AtEntry (entry c) g
     → Reached (pass-level (entry c .args .clock)) (pass (entry c .args .clock) (begin (g .state))) g (c .loop .e) (c .loop .l) (c .loop .merges) (c .loop .i)
 reached c g h =
     let a = entry c .args in
-    let buffer = c .before .before .before .before .before .pass-buffer in
-    c .loop .inv .3 g (pass (a .clock) (begin (g .state))) (h .1) (sym (laid-deepest g (a .e .now) (a .l .now) (h .0)))
+    let buffer = buffered c .pass-buffer in
+    c .loop .inv .3 g (pass (a .clock) (begin (g .state))) (h .1) (sym (deepest-read c .deepest-of .ensures ∙ laid-deepest g (a .e .now) (a .l .now) (h .0)))
     (pass-begun (a .clock) g (buffer .last .0) (buffer .last .1 .0) (buffer .result)
     (omega (arith, laid-allowed g (a .e .now) (a .l .now) (h .0))) (buffer .ensures g (h .0)))
 
 -- A turn's level is above the deepest of every such store.
 in-turn : (c : tie.In-loop Inv-loop μ-loop) (g : Store) → AtEntry (entry (c .before)) g → c .before .loop .i < g .state .settings .deepest
-in-turn c g h = let a = entry (c .before) .args in omega (arith, c .loop-test .taken, laid-deepest g (a .e .now) (a .l .now) (h .0))
+in-turn c g h = let a = entry (c .before) .args in omega (arith, c .loop-test .taken, deepest-read (c .before) .deepest-of .ensures, laid-deepest g (a .e .now) (a .l .now) (h .0))
 
 pass-level-requires : tie.Need-pass-level-requires Inv-loop μ-loop
 pass-level-requires c κs =
@@ -118,7 +124,7 @@ same-length-2 c = search needs
 returns : tie.Need-returns Inv-loop μ-loop
 returns c = λ g laid now.
     let a = entry (c .before) .args in
-    reached-end (reached (c .before) g (laid, now)) (omega (arith, c .loop-test .left, laid-deepest g (a .e .now) (a .l .now) laid))
+    reached-end (reached (c .before) g (laid, now)) (omega (arith, c .loop-test .left, deepest-read (c .before) .deepest-of .ensures, laid-deepest g (a .e .now) (a .l .now) laid))
 
 pub pass-spec : {M : Type 1} → statement M
 pass-spec =
@@ -126,8 +132,7 @@ pass-spec =
     (tie.spec
     Inv-loop
     μ-loop
-    slice-read-deepest
-    cast-deepest
+    deepest-of-requires
     pass-buffer-requires
     loop-holds
     pass-level-requires

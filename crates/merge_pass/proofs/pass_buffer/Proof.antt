@@ -1,50 +1,50 @@
--- `merge_pass::pass_buffer` meets its contract: its test is the model's, and what it merges is the buffer of every store that the tables hold.
+-- The test is the model's, and what is merged is the buffer of every store that the tables hold.
 use borrow.Author.Needs.{needs}
 use borrow.Author.Tests.{le-leb, lt-leb}
-use mathlib.Core.Path.{_≡_, _∙_}
+use mathlib.Core.Path.{_≡_, ap, _∙_}
 use Prim.Native.Nat.{_≤_}
 use native.Mathlib.Omega.{arith}
-use lib.ListN.{length, getD}
-use Rattle.tables.specs.Words.{level-row}
+use lib.ListN.{length}
+use Rattle.settings.specs.declared.Settings.{Settings}
+use Rattle.tables.specs.Rows.{InRows, settings-of, level-row}
 use Rattle.merge_levels.proofs.Store.{laid-length, laid-allowed, held-read}
 use Rattle.merge_pass.proofs.Due.{laid-buffer-due}
 use Rattle.merge_pass.proofs.Passing.{buffer-stays, buffer-merged}
+use borrow.Author.Needs.{needs}
 use Rattle.merge_pass.proofs.pass_buffer.Statement.{statement}
 use Rattle.merge_pass.proofs.pass_buffer.Tie as tie
 
 -- The level table has the rows of the settings and of the buffer.
-rows : (c : tie.Start) → 8 ≤ length (c .args .l .now)
+rows : (c : tie.Start) → InRows (c .args .l .now) 0
 rows c = omega (arith, laid-length (c .pre .value) (c .args .e .now) (c .args .l .now) (c .pre .has))
 
-level-at-requires : tie.Need-level-at-requires
-level-at-requires c κs = omega (arith, rows (c .before .before .before))
+-- What the code has read of the settings and of the buffer's row.
+abbrev entry-of : tie.After-settings-of → tie.Start
+entry-of c = c .before .before .before .before .before .before
 
-slice-read-if1 : tie.Need-slice-read-if1
-slice-read-if1 c = omega (arith, rows (c .before .before .before .before .before))
+read : (c : tie.After-settings-of) → (c .before .before .level-at .result .held ≡ level-row (entry-of c .args .l .now) 0 .held)
+    × (c .settings-of .result .buffer ≡ settings-of (entry-of c .args .l .now) .buffer)
+read c =
+    let row = c .before .before .level-at in
+    (held-read (row .result) (entry-of c .args .l .now) 0 (row .ensures), ap (λ (s : Settings). s .buffer) (c .settings-of .ensures))
+
+level-at-requires : tie.Need-level-at-requires
+level-at-requires c κs = rows (c .before .before .before)
+
+settings-of-requires : tie.Need-settings-of-requires
+settings-of-requires c κs = omega (arith, rows (c .before .before .before .before .before))
 
 cast-if1 : tie.Need-cast-if1
-cast-if1 c = omega (arith, c .slice-known3 .given 2)
+cast-if1 c = search needs
 
 same-length : tie.Need-same-length
 same-length c = search needs
 
-abbrev entry : tie.After-level-at → tie.Start
-entry c = c .before .before .before .before
-
--- What the code has read of the buffer's row.
-held-is : (c : tie.After-level-at) → c .level-at .result .held ≡ level-row (entry c .args .l .now) 0 .w2
-held-is c = held-read (c .level-at .result) (entry c .args .l .now) 0 (c .level-at .ensures)
-
 returns : tie.Need-returns
-returns c = λ g laid.
-    let a = entry (c .before .before .before) .args in
-    let few = lt-leb (getD (a .l .now) 2 0) (level-row (a .l .now) 0 .w2) (omega (arith, c .if1 .taken, held-is (c .before .before .before))) in
-    buffer-stays g (a .e .now) (a .l .now) (laid-buffer-due g (a .e .now) (a .l .now) laid ∙ few) laid
+returns c = λ g laid. let a = c .before .before .before .before .before .before .before .before .before .args in buffer-stays g (a .e .now) (a .l .now) (laid-buffer-due g (a .e .now) (a .l .now) laid ∙ lt-leb (settings-of (a .l .now) .buffer) (level-row (a .l .now) 0 .held) (omega (arith, c .if1 .taken, read (c .before .before .before)))) laid
 
 merge-level-requires : tie.Need-merge-level-requires
-merge-level-requires c κs =
-    let start = entry (c .before .before .before .before .before) in
-    record { value = start .pre .value; has = (start .pre .has, omega (arith, laid-allowed (start .pre .value) (start .args .e .now) (start .args .l .now) (start .pre .has))) }
+merge-level-requires c κs = record { value = c .before .before .before .before .before .before .before .before .before .before .before .pre .value; has = (c .before .before .before .before .before .before .before .before .before .before .before .pre .has, omega (arith, laid-allowed (c .before .before .before .before .before .before .before .before .before .before .before .pre .value) (c .before .before .before .before .before .before .before .before .before .before .before .args .e .now) (c .before .before .before .before .before .before .before .before .before .before .before .args .l .now) (c .before .before .before .before .before .before .before .before .before .before .before .pre .has))) }
 
 same-length-2 : tie.Need-same-length-2
 same-length-2 c = search needs
@@ -53,19 +53,14 @@ same-length-3 : tie.Need-same-length-3
 same-length-3 c = search needs
 
 returns-2 : tie.Need-returns-2
-returns-2 c = λ g laid.
-    let merge = c .before .before .before .before .merge-level in
-    let a = entry (c .before .before .before .before .before .before .before .before .before .before) .args in
-    let full = le-leb (getD (a .l .now) 2 0) (level-row (a .l .now) 0 .w2) (omega (arith, c .before .before .before .before .before .before .before .if1 .left, held-is (c .before .before .before .before .before .before .before .before .before .before))) in
-    buffer-merged g (merge .last .0) (merge .last .1 .0) (laid-buffer-due g (a .e .now) (a .l .now) laid ∙ full)
-    (merge .ensures g laid (omega (arith, laid-allowed g (a .e .now) (a .l .now) laid)))
+returns-2 c = λ g laid. let a = c .before .before .before .before .before .before .before .before .before .before .before .before .before .before .before .before .args in buffer-merged g (c .before .before .before .before .merge-level .last .0) (c .before .before .before .before .merge-level .last .1 .0) (laid-buffer-due g (a .e .now) (a .l .now) laid ∙ le-leb (settings-of (a .l .now) .buffer) (level-row (a .l .now) 0 .held) (omega (arith, c .before .before .before .before .before .before .before .if1 .left, read (c .before .before .before .before .before .before .before .before .before .before)))) (c .before .before .before .before .merge-level .ensures g laid (omega (arith, laid-allowed g (a .e .now) (a .l .now) laid)))
 
 pub pass-buffer-spec : {M : Type 1} → statement M
 pass-buffer-spec =
     tie.close
     (tie.spec
     level-at-requires
-    slice-read-if1
+    settings-of-requires
     cast-if1
     same-length
     returns

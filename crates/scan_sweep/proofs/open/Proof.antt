@@ -1,15 +1,22 @@
--- `scan_sweep::open` meets its contract. The loop's invariant: with the levels still to come the heads and the ranges are those of all.
-use mathlib.Core.Path.{_≡_, refl, sym, _∙_}
-use Prim.Native.Nat.{_+_, _*_, _-_, _≤_}
+-- The loop keeps: with the levels still to come the heads and the ranges are those of all.
+use mathlib.Core.List.{List}
+use mathlib.Core.Path.{_≡_, refl, sym, ap, _∙_}
+use Prim.Native.Nat.{ℕ, _+_, _-_, _≤_}
 use native.Mathlib.Numerals.{add-one}
 use native.Mathlib.Omega.{arith}
 use borrow.Author.Needs.{needs}
-use lib.ListN.{length, getD, set, length-set}
+use lib.ListN.{length, set, length-set}
 use Rattle.lists.specs.Lists.{iterate}
 use Rattle.lists.proofs.Loops.{iterate-end, iterate-next}
-use Rattle.tables.specs.Words.{settings-of, level-row}
+use Rattle.tables.specs.Rows.{settings-of, level-row}
+use Rattle.tables.specs.Sound.{chain-from}
+use Rattle.table_levels.specs.declared.Level.{Level}
+use Rattle.table_levels.specs.Levels.{level-at}
+use Rattle.chain_cover.specs.Walks.{Ordered}
+use Rattle.chain_cover.specs.Skips.{first-slot, beginning}
+use Rattle.scan_heads.specs.declared.Heads.{Heads}
 use Rattle.scan_heads.specs.Heads.{head-at, pushed}
-use Rattle.scan_sweep.specs.Sweeps.{front-at, opened-heads, opened-ranges}
+use Rattle.scan_sweep.specs.Sweeps.{front-at, opened-heads, opened-ranges, opened}
 use Rattle.scan_sweep.proofs.Opening.{front-is-ordered, front-small}
 use Rattle.scan_sweep.proofs.open.Statement.{statement}
 use Rattle.scan_sweep.proofs.open.Tie as tie
@@ -18,110 +25,101 @@ abbrev Inv-loop : tie.InvT-loop
 Inv-loop e l lo hi levels heads₀ ranges₀ i₀ heads ranges i =
     (i ≤ levels) × (levels ≡ settings-of l .deepest + 1) × (length ranges ≡ 7)
     × (iterate (λ i a. pushed a (head-at e i (front-at e l lo i))) i (levels - i) heads ≡ opened-heads e l lo levels)
-    × (iterate (λ i rs. set rs i (level-row l i .w1)) i (levels - i) ranges ≡ opened-ranges l levels)
+    × (iterate (λ i rs. set rs i (level-row l i .ranges)) i (levels - i) ranges ≡ opened-ranges l levels)
 
 abbrev μ-loop : tie.MeasureT-loop
 μ-loop e l lo hi levels heads₀ ranges₀ i₀ heads ranges i = levels - i
 
-shared-slice-read-levels : tie.Need-shared-slice-read-levels Inv-loop μ-loop
-shared-slice-read-levels c = omega arith
+-- Where the code stands, seen from a later place.
+abbrev entry-of : tie.At-loop Inv-loop μ-loop → tie.Start Inv-loop μ-loop
+entry-of c = c .before .before .before .before .before
 
-cast-levels : tie.Need-cast-levels Inv-loop μ-loop
-cast-levels c = omega arith
+abbrev in-turn-of : tie.After-push Inv-loop μ-loop → tie.In-loop Inv-loop μ-loop
+in-turn-of c = c .before .before .before .before
+
+deepest-of-requires : tie.Need-deepest-of-requires Inv-loop μ-loop
+deepest-of-requires c κs = omega (arith, c .before .before .pre .rows)
 
 add-levels : tie.Need-add-levels Inv-loop μ-loop
-add-levels c = omega arith
+add-levels c = omega (arith, c .deepest-of .ensures, c .before .before .before .pre .shallow)
 
 nothing-requires : tie.Need-nothing-requires Inv-loop μ-loop
 nothing-requires c κs = search needs
 
 loop-holds : tie.Need-loop-holds Inv-loop μ-loop
-loop-holds c =
-    let a = c .before .before .before .before .args in
-    let all : getD (a .l .now) 0 0 + 1 - 0 ≡ getD (a .l .now) 0 0 + 1 = omega arith in
-    (omega arith, refl, refl, rw (c .nothing .ensures, all), rw all)
+loop-holds c = let all : c .before .deepest-of .result + 1 - 0 ≡ c .before .deepest-of .result + 1 = omega arith in (omega arith, omega (arith, c .before .deepest-of .ensures), refl, rw (c .nothing .ensures, all), rw all)
 
-add-seek : tie.Need-add-seek Inv-loop μ-loop
-add-seek c = omega arith
-
-mul-seek : tie.Need-mul-seek Inv-loop μ-loop
-mul-seek c = omega arith
-
-mul-seek-2 : tie.Need-mul-seek-2 Inv-loop μ-loop
-mul-seek-2 c = omega arith
-
-shared-slice-read-seek : tie.Need-shared-slice-read-seek Inv-loop μ-loop
-shared-slice-read-seek c = omega arith
-
-cast-seek : tie.Need-cast-seek Inv-loop μ-loop
-cast-seek c = omega (arith, c .shared-slice-known4 .given (4 * (c .before .before .loop .i + 1)))
+level-at-requires : tie.Need-level-at-requires Inv-loop μ-loop
+level-at-requires c κs =
+    let turn = c .before in
+    let entry = entry-of turn in
+    omega (arith, turn .loop .inv .1, c .loop-test .taken, entry .pre .rows)
 
 seek-requires : tie.Need-seek-requires Inv-loop μ-loop
 seek-requires c κs =
-    let l = c .before .before in
-    l .before .before .before .before .before .pre .points (l .loop .i) (omega (arith, l .loop .inv .1))
+    let in-turn = c .before in
+    let turn = in-turn .before in
+    let entry = entry-of turn in
+    rw (ap (λ (v : Level). v .points) (c .level-at .ensures)) (entry .pre .points (turn .loop .i) (omega (arith, turn .loop .inv .1, in-turn .loop-test .taken)))
+
+front-is : (e l : List ℕ) (lo i s : ℕ) (v : Level) → s ≡ first-slot (beginning e lo (chain-from e (v .points))) → v ≡ level-at l i → s ≡ front-at e l lo i
+front-is e l lo i s v q is = q ∙ ap (λ (v : Level). first-slot (beginning e lo (chain-from e (v .points)))) is
+
+opens : (e l : List ℕ) (lo hi levels : ℕ) (heads : Heads) (ranges : List ℕ) → levels ≡ settings-of l .deepest + 1
+    → heads ≡ opened-heads e l lo levels → ranges ≡ opened-ranges l levels
+    → record { heads = heads; ranges = ranges; levels = levels; cover = 0; fence = 0; from = lo; hi = hi; going = 1; live = 0; key = 0; value = 0; stamp = 0 } ≡ opened e l lo hi
+opens e l lo hi levels heads ranges n h r = rw (h, r, n)
 
 head-requires : tie.Need-head-requires Inv-loop μ-loop
 head-requires c κs =
-    let l = c .before .before .before in
-    let p = l .before .before .before .before .before in
-    rw (c .seek .ensures) (front-is-ordered (p .pre) (p .args .lo) (l .loop .i) (omega (arith, l .loop .inv .1)), (omega (arith, l .loop .inv .1, p .pre .shallow), front-small (p .pre) (p .args .lo) (l .loop .i) (omega (arith, l .loop .inv .1))))
+    let after-level-at = c .before in
+    let in-turn = after-level-at .before in
+    let turn = in-turn .before in
+    let entry = entry-of turn in
+    let i = turn .loop .i in rw (front-is (entry .args .e .now) (entry .args .l .now) (entry .args .lo) i _ _ (c .seek .ensures) (after-level-at .level-at .ensures)) (front-is-ordered (entry .pre) (entry .args .lo) i (omega (arith, turn .loop .inv .1, in-turn .loop-test .taken)), (omega (arith, turn .loop .inv .1, in-turn .loop-test .taken, entry .pre .shallow), front-small (entry .pre) (entry .args .lo) i (omega (arith, turn .loop .inv .1, in-turn .loop-test .taken))))
 
 push-requires : tie.Need-push-requires Inv-loop μ-loop
 push-requires c κs = search needs
 
-add-ranges : tie.Need-add-ranges Inv-loop μ-loop
-add-ranges c = omega arith
-
 mul-ranges : tie.Need-mul-ranges Inv-loop μ-loop
-mul-ranges c = omega arith
-
-add-ranges-2 : tie.Need-add-ranges-2 Inv-loop μ-loop
-add-ranges-2 c = omega arith
-
-mul-ranges-2 : tie.Need-mul-ranges-2 Inv-loop μ-loop
-mul-ranges-2 c = omega arith
-
-shared-slice-read-ranges : tie.Need-shared-slice-read-ranges Inv-loop μ-loop
-shared-slice-read-ranges c = omega arith
-
-cast-ranges : tie.Need-cast-ranges Inv-loop μ-loop
-cast-ranges c = omega (arith, c .shared-slice-known5 .given (4 * (c .before .before .before .before .before .before .loop .i + 1) + 1))
-
-mul-ranges-3 : tie.Need-mul-ranges-3 Inv-loop μ-loop
-mul-ranges-3 c = omega arith
+mul-ranges c =
+    let in-turn = in-turn-of c in
+    let turn = in-turn .before in
+    let entry = entry-of turn in
+    omega (arith, turn .loop .inv .1, in-turn .loop-test .taken, entry .pre .shallow)
 
 array-write-ranges : tie.Need-array-write-ranges Inv-loop μ-loop
-array-write-ranges c = omega arith
+array-write-ranges c =
+    let in-turn = in-turn-of c in
+    let turn = in-turn .before in
+    let entry = entry-of turn in
+    omega (arith, turn .loop .inv .1, turn .loop .inv .2, in-turn .loop-test .taken, entry .pre .shallow)
 
 add-i : tie.Need-add-i Inv-loop μ-loop
-add-i c = omega arith
+add-i c =
+    let in-turn = in-turn-of c in
+    omega (arith, in-turn .loop-test .taken)
 
 loop-less : tie.Need-loop-less Inv-loop μ-loop
-loop-less c = omega arith
+loop-less c =
+    let in-turn = in-turn-of c in
+    omega (arith, in-turn .loop-test .taken)
 
 loop-again : tie.Need-loop-again Inv-loop μ-loop
 loop-again c =
-    let b = c .before in
-    let t = b .before .before .before .before in
-    let l = t .before in
-    let a = l .before .before .before .before .before .args in
-    let i = l .loop .inv in (
-      omega (arith, i .0),
-      i .1,
-      length-set (l .loop .ranges) (l .loop .i) (getD (a .l .now) (4 * (l .loop .i + 1) + 1) 0) ∙ i .2,
-      rw (b .push .ensures, b .before .head .ensures, b .before .before .seek .ensures)
-          (sym (iterate-next (λ j x. pushed x (head-at (a .e .now) j (front-at (a .e .now) (a .l .now) (a .lo) j))) _ (l .loop .i) (l .loop .heads) _ (t .loop-test .taken) (add-one _)) ∙ i .3),
-      sym (iterate-next (λ j rs. set rs j (level-row (a .l .now) j .w1)) _ (l .loop .i) (l .loop .ranges) _ (t .loop-test .taken) (add-one _)) ∙ i .4,
-    )
+    let after-head = c .before in
+    let after-seek = after-head .before in
+    let after-level-at = after-seek .before in
+    let in-turn = after-level-at .before in
+    let turn = in-turn .before in
+    let entry = entry-of turn in
+    let e = entry .args .e .now in let l = entry .args .l .now in let lo = entry .args .lo in let i = turn .loop .i in let pushed-is = c .push .ensures ∙ ap (pushed (turn .loop .heads)) (after-head .head .ensures ∙ ap (head-at e i) (front-is e l lo i _ _ (after-seek .seek .ensures) (after-level-at .level-at .ensures))) in let ranges-is = ap (λ (v : Level). set (turn .loop .ranges) i (v .ranges)) (after-level-at .level-at .ensures) in (omega (arith, in-turn .loop-test .taken), turn .loop .inv .1, length-set (turn .loop .ranges) i _ ∙ turn .loop .inv .2, rw pushed-is (sym (iterate-next (λ j x. pushed x (head-at e j (front-at e l lo j))) _ i (turn .loop .heads) _ (in-turn .loop-test .taken) (add-one _)) ∙ turn .loop .inv .3), rw ranges-is (sym (iterate-next (λ j rs. set rs j (level-row l j .ranges)) _ i (turn .loop .ranges) _ (in-turn .loop-test .taken) (add-one _)) ∙ turn .loop .inv .4))
 
 returns : tie.Need-returns Inv-loop μ-loop
 returns c =
-    let l = c .before in
-    let a = l .before .before .before .before .before .args in
-    let heads = sym (iterate-end (λ j x. pushed x (head-at (a .e .now) j (front-at (a .e .now) (a .l .now) (a .lo) j))) _ (l .loop .i) (l .loop .heads) (c .loop-test .left)) ∙ l .loop .inv .3 in
-    let ranges = sym (iterate-end (λ j rs. set rs j (level-row (a .l .now) j .w1)) _ (l .loop .i) (l .loop .ranges) (c .loop-test .left)) ∙ l .loop .inv .4 in
-    rw (heads, ranges)
+    let turn = c .before in
+    let entry = entry-of turn in
+    let e = entry .args .e .now in let l = entry .args .l .now in let lo = entry .args .lo in opens e l lo (entry .args .hi) _ (turn .loop .heads) (turn .loop .ranges) (turn .loop .inv .1) (sym (iterate-end (λ j x. pushed x (head-at e j (front-at e l lo j))) _ (turn .loop .i) (turn .loop .heads) (c .loop-test .left)) ∙ turn .loop .inv .3) (sym (iterate-end (λ j rs. set rs j (level-row l j .ranges)) _ (turn .loop .i) (turn .loop .ranges) (c .loop-test .left)) ∙ turn .loop .inv .4)
 
 pub open-spec : {M : Type 1} → statement M
 open-spec =
@@ -129,26 +127,15 @@ open-spec =
     (tie.spec
     Inv-loop
     μ-loop
-    shared-slice-read-levels
-    cast-levels
+    deepest-of-requires
     add-levels
     nothing-requires
     loop-holds
-    add-seek
-    mul-seek
-    mul-seek-2
-    shared-slice-read-seek
-    cast-seek
+    level-at-requires
     seek-requires
     head-requires
     push-requires
-    add-ranges
     mul-ranges
-    add-ranges-2
-    mul-ranges-2
-    shared-slice-read-ranges
-    cast-ranges
-    mul-ranges-3
     array-write-ranges
     add-i
     loop-less

@@ -1,7 +1,8 @@
--- `table_levels::level_at` meets its contract: every word of the table fits a `usize`.
-use borrow.Author.Needs.{needs}
-use Prim.Native.Nat.{_+_, _*_}
+-- `level_at`: every word of the table fits a `usize`.
 use native.Mathlib.Omega.{arith}
+use Prim.Native.Nat.{_+_, _*_}
+use Rattle.tables.specs.Rows.{row-size}
+use borrow.Author.Needs.{needs}
 use Rattle.table_levels.proofs.level_at.Statement.{statement}
 use Rattle.table_levels.proofs.level_at.Tie as tie
 
@@ -18,7 +19,7 @@ shared-slice-read-t6 : tie.Need-shared-slice-read-t6
 shared-slice-read-t6 c = search needs
 
 cast-t7 : tie.Need-cast-t7
-cast-t7 c = let a = c .before .args in omega (arith, c .shared-slice-known .given (4 * (a .i + 1)))
+cast-t7 c = omega (arith, c .shared-slice-known .given (row-size * (c .before .args .i + 1)))
 
 add-t8 : tie.Need-add-t8
 add-t8 c = search needs
@@ -30,7 +31,7 @@ shared-slice-read-t11 : tie.Need-shared-slice-read-t11
 shared-slice-read-t11 c = search needs
 
 cast-t12 : tie.Need-cast-t12
-cast-t12 c = let a = c .before .before .args in omega (arith, c .shared-slice-known2 .given (4 * (a .i + 1) + 1))
+cast-t12 c = omega (arith, c .shared-slice-known2 .given (row-size * (c .before .before .args .i + 1) + 1))
 
 add-t13 : tie.Need-add-t13
 add-t13 c = search needs
@@ -42,7 +43,7 @@ shared-slice-read-t16 : tie.Need-shared-slice-read-t16
 shared-slice-read-t16 c = search needs
 
 cast-t17 : tie.Need-cast-t17
-cast-t17 c = let a = c .before .before .before .args in omega (arith, c .shared-slice-known3 .given (4 * (a .i + 1) + 2))
+cast-t17 c = omega (arith, c .shared-slice-known3 .given (row-size * (c .before .before .before .args .i + 1) + 2))
 
 add-t18 : tie.Need-add-t18
 add-t18 c = search needs

@@ -4,6 +4,10 @@ use Rattle.write_act.proofs.Overwrites.{points-chain, search-asked, kep
 use Rattle.write_act.proofs.overwrite.Statement.{statement}
 use Rattle.write_act.proofs.overwrite.Tie as tie
 
+-- Where the code stands, seen from a later place.
+abbrev entry-of : tie.After-first-doomed → tie.Start
+entry-of c = c .before .before .before
+
 first-doomed-requires : tie.Need-first-doomed-requires
 first-doomed-requires c κs = record { value = points-chain (c .before .before .pre .value); has = search-asked (c .before .before .pre .has) }
 
@@ -12,22 +16,31 @@ same-length c = search needs
 
 returns : tie.Need-returns
 returns c g h =
-    let a = c .before .before .before .before .args in
-    kept h (a .docket) (c .before .first-doomed .ensures _ (search-asked h)) (c .if1 .taken) (a .tally) (a .clock)
+    let after-first-doomed = c .before in
+    let entry = entry-of after-first-doomed in
+    let a = entry .args in
+    kept h (a .docket) (after-first-doomed .first-doomed .ensures _ (search-asked h)) (c .if1 .taken) (a .tally) (a .clock)
 
 set-value-requires : tie.Need-set-value-requires
 set-value-requires c κs =
-    let h = c .before .before .before .before .before .pre .has in
-    slot-in-table h (c .before .before .before .before .before .args .docket) (c .before .before .first-doomed .ensures _ (search-asked h)) (c .before .if1 .left)
+    let else-1 = c .before in
+    let after-first-doomed = else-1 .before in
+    let entry = entry-of after-first-doomed in
+    let h = entry .pre .has in
+    slot-in-table h (entry .args .docket) (after-first-doomed .first-doomed .ensures _ (search-asked h)) (else-1 .if1 .left)
 
 same-length-2 : tie.Need-same-length-2
 same-length-2 c = search needs
 
 returns-2 : tie.Need-returns-2
 returns-2 c g h =
-    let a = c .before .before .before .before .before .before .before .before .args in
-    rw (c .before .before .set-value .ensures)
-    (changed h (a .docket) (c .before .before .before .before .before .first-doomed .ensures _ (search-asked h)) (c .before .before .before .before .if1 .left) (a .tally) (a .clock))
+    let after-set-value = c .before .before in
+    let else-1 = after-set-value .before .before in
+    let after-first-doomed = else-1 .before in
+    let entry = entry-of after-first-doomed in
+    let a = entry .args in
+    rw (after-set-value .set-value .ensures)
+    (changed h (a .docket) (after-first-doomed .first-doomed .ensures _ (search-asked h)) (else-1 .if1 .left) (a .tally) (a .clock))
 
 pub overwrite-spec : {M : Type 1} → statement M
 overwrite-spec =

@@ -1,70 +1,72 @@
-use mathlib.Core.Path.{ap, _∙_}
+-- The first free slot leaves the free chain and takes the record.
+use borrow.Author.Needs.{needs}
+use mathlib.Core.Path.{_≡_, sym, ap, _∙_}
 use mathlib.Core.List.{List}
-use Prim.Native.Nat.{ℕ, _+_, _*_, _<_}
+use Prim.Native.Nat.{ℕ}
 use native.Mathlib.Omega.{arith}
-use lib.ListN.{length, getD, length-set}
+use lib.ListN.{length}
 use Rattle.lists.specs.All.{Exists}
-use Rattle.tables.proofs.Rows.{length-set-row}
-use Rattle.write_enter.specs.Taking.{FreeHeld}
+use Rattle.tables.specs.Slots.{InTable, set-slot, slot-at, first-free, with-link}
+use Rattle.tables.specs.Placed.{cell-slot}
+use Rattle.tables.proofs.Slots.{length-set-slot}
+use Rattle.write_record.specs.Records.{record-cell}
 use Rattle.write_record.specs.declared.Record.{Record}
+use Rattle.write_enter.specs.Taking.{FreeHeld}
 use Rattle.write_enter.proofs.Takes.{first-slot, first-in-table, take-ends}
 use borrow.Author.Needs.{needs}
 use Rattle.write_enter.proofs.take.Statement.{statement}
 use Rattle.write_enter.proofs.take.Tie as tie
 
 -- The first free slot is in the table.
-starts : (e : List ℕ) (w : Record) → Exists (λ g. FreeHeld g e w) → 4 * getD e 0 0 + 3 < length e
-starts e w p = omega (arith, first-slot (p .has), first-in-table (p .has))
+starts : (e : List ℕ) (w : Record) → Exists (λ g. FreeHeld g e w) → {x : ℕ} → x ≡ first-free e → InTable e x
+starts e w p q = omega (arith, q, first-slot (p .has), first-in-table (p .has))
 
-slice-read-slot : tie.Need-slice-read-slot
-slice-read-slot c = search needs
+-- Where the code stands, seen from a later place.
+abbrev entry-of : tie.After-first-free → tie.Start
+entry-of c = c .before .before .before
 
-cast-slot : tie.Need-cast-slot
-cast-slot c = omega (arith, c .slice-known2 .given 0)
+abbrev after-first-free-of : tie.After-next-of → tie.After-first-free
+after-first-free-of c = c .before .before .before
+
+first-free-requires : tie.Need-first-free-requires
+first-free-requires c κs = search needs
 
 next-of-requires : tie.Need-next-of-requires
-next-of-requires c κs = starts (c .before .before .before .args .e .now) (c .before .before .before .args .w) (c .before .before .before .pre)
+next-of-requires c κs =
+    let after-first-free = c .before .before in
+    let entry = entry-of after-first-free in
+    starts (entry .args .e .now) (entry .args .w) (entry .pre) (after-first-free .first-free .ensures)
 
-cast-e : tie.Need-cast-e
-cast-e c = search needs
+set-first-free-requires : tie.Need-set-first-free-requires
+set-first-free-requires c κs = search needs
 
-slice-write-e : tie.Need-slice-write-e
-slice-write-e c = search needs
-
-mul-set-row : tie.Need-mul-set-row
-mul-set-row c = search needs
-
-mul-set-row-2 : tie.Need-mul-set-row-2
-mul-set-row-2 c = search needs
-
-add-set-row : tie.Need-add-set-row
-add-set-row c = search needs
-
-set-row-requires : tie.Need-set-row-requires
-set-row-requires c κs =
-    let s = c .before .before .before .before .before .before .before .before in
-    omega (arith, starts (s .args .e .now) (s .args .w) (s .pre), length-set (s .args .e .now) 0 (c .before .before .before .before .next-of .result))
+set-record-requires : tie.Need-set-record-requires
+set-record-requires c κs =
+    let after-set-first-free = c .before .before .before in
+    let after-next-of = after-set-first-free .before in
+    let after-first-free = after-first-free-of after-next-of in
+    let entry = entry-of after-first-free in
+    (omega (arith, starts (entry .args .e .now) (entry .args .w) (entry .pre) (after-first-free .first-free .ensures), ap length (after-set-first-free .set-first-free .ensures), length-set-slot (entry .args .e .now) 0 (with-link (after-next-of .next-of .result) (slot-at (entry .args .e .now) 0))), (omega (arith, entry .pre .has .kind-fits), (omega (arith, entry .pre .has .lo-fits), omega (arith, entry .pre .has .hi-fits))))
 
 same-length : tie.Need-same-length
-same-length c = ap length (c .before .before .set-row .ensures) ∙ simp (length-set-row, length-set)
+same-length c = search needs
 
 returns : tie.Need-returns
-returns c g h =
-    let s = c .before .before .before .before .before .before .before .before .before .before .before in
-    take-ends h (s .args .clock) (c .before .before .before .before .before .before .before .next-of .ensures) (c .before .before .set-row .ensures)
+returns c = λ g h.
+    let after-set-record = c .before .before in
+    let after-set-first-free = after-set-record .before .before .before .before in
+    let after-next-of = after-set-first-free .before in
+    let after-first-free = after-first-free-of after-next-of in
+    let entry = entry-of after-first-free in
+    take-ends h (entry .args .clock) (after-first-free .first-free .ensures) (after-next-of .next-of .ensures) (after-set-record .set-record .ensures ∙ ap (λ (x : List ℕ). set-slot x (after-first-free .first-free .result) (cell-slot 0 (record-cell (after-first-free .first-free .result) (entry .args .clock) (entry .args .w)))) (after-set-first-free .set-first-free .ensures))
 
 pub take-spec : {M : Type 1} → statement M
 take-spec =
     tie.close
     (tie.spec
-    slice-read-slot
-    cast-slot
+    first-free-requires
     next-of-requires
-    cast-e
-    slice-write-e
-    mul-set-row
-    mul-set-row-2
-    add-set-row
-    set-row-requires
+    set-first-free-requires
+    set-record-requires
     same-length
     returns)

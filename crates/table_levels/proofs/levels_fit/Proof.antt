@@ -1,9 +1,10 @@
--- `check_refusal::level_table_fits`: a table without a first row is too short, and the settings' answer tells whether the row is allowed.
-use Rattle.check_refusal.proofs.Tables.{table-short, table-refused, table-accepted}
-use mathlib.Core.Path.{sym, _∙_}
+-- `levels_fit`: a table without a first row is too short, and the answer of the settings tells whether the row is allowed.
+use mathlib.Core.Path.{sym, ap, _∙_}
+use native.Mathlib.Omega.{arith}
+use Rattle.table_levels.proofs.Fits.{table-short, table-refused, table-accepted}
 use borrow.Author.Needs.{needs}
-use Rattle.check_refusal.proofs.level_table_fits.Statement.{statement}
-use Rattle.check_refusal.proofs.level_table_fits.Tie as tie
+use Rattle.table_levels.proofs.levels_fit.Statement.{statement}
+use Rattle.table_levels.proofs.levels_fit.Tie as tie
 
 returns : tie.Need-returns
 returns c = table-short _ (c .if1 .taken)
@@ -32,20 +33,19 @@ enum-told c = search needs
 returns-2 : tie.Need-returns-2
 returns-2 c = table-refused _ (sym (c .before .before .new .ensures) ∙ c .enum-told .given .1)
 
-cast-result : tie.Need-cast-result
-cast-result c = search needs
+cast-level-length : tie.Need-cast-level-length
+cast-level-length c = search needs
 
-add-result : tie.Need-add-result
-add-result c = search needs
-
-mul-result : tie.Need-mul-result
-mul-result c = search needs
+level-length-requires : tie.Need-level-length-requires
+level-length-requires c κs = search needs
 
 returns-3 : tie.Need-returns-3
-returns-3 c = table-accepted _ (sym (c .before .before .before .before .new .ensures) ∙ c .before .before .s .given .1)
+returns-3 c =
+    let taken = c .before .before .before in
+    rw (c .level-length .ensures) (table-accepted _ (sym (taken .before .before .new .ensures) ∙ taken .s .given .1))
 
-pub level-table-fits-spec : {M : Type 1} → statement M
-level-table-fits-spec =
+pub levels-fit-spec : {M : Type 1} → statement M
+levels-fit-spec =
     tie.close
     (tie.spec
     returns
@@ -57,7 +57,6 @@ level-table-fits-spec =
     enum-known-s
     enum-told
     returns-2
-    cast-result
-    add-result
-    mul-result
+    cast-level-length
+    level-length-requires
     returns-3)
