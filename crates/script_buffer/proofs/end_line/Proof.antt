@@ -50,7 +50,7 @@ returns c =
     let a = s .args in
     let few = length-numbers (r .result .first) (r .result .second) (r .result .third) in (
       ends (a .entries .now) (a .levels .now) (a .line .now) (a .output .now) (a .m) (r .last .1 .0) (r .last .1 .1 .0) (p .last .0) (r .result)
-      (p .result) (s .pre .1) (r .ensures .0) (p .ensures),
+          (p .result) (s .pre .1) (r .ensures .0) (p .ensures),
       (record { fits = r .ensures .1; line-room = s .pre .0 .line-room; within = omega arith }, omega (arith, few, p .ensures .0)),
     )
 

@@ -61,7 +61,7 @@ returns-2 c =
     let s = entry (other .before) in
     let a = s .args in (
       takes-byte (a .entries .now) (a .levels .now) (a .line .now) (a .output .now) (a .m) (a .byte) (k .result) (k .last .1 .0)
-      (other .if1 .left) (k .ensures .1),
+          (other .if1 .left) (k .ensures .1),
       (record { fits = s .pre .0 .fits; line-room = omega (arith, k .kept .1 .0, s .pre .0 .line-room); within = k .ensures .0 }, omega arith),
     )
 
