@@ -1,4 +1,4 @@
--- `scan_sweep::cross` meets its contract: nothing is left, or the survey tells of the docket.
+-- `scan_sweep::cross`: past hi nothing is left; else the survey tells what covers the docket, and the sweep goes on by that.
 use mathlib.Core.Path.{_≡_, sym, subst}
 use lib.Dec.{ltb}
 use Rattle.scan_fences.specs.Fences.{View}
