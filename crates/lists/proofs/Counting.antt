@@ -26,14 +26,14 @@ module _ {X : Type 0} (t : X → Bool) where
   count-append [] ys = omega arith
   count-append (x ∷ xs) ys = omega (arith, count-append xs ys)
 
-  at-most-one : (b : Bool) → cond b 1 0 ≤ 1
-  at-most-one true = omega arith
-  at-most-one false = omega arith
+  cond-one-most : (b : Bool) → cond b 1 0 ≤ 1
+  cond-one-most true = omega arith
+  cond-one-most false = omega arith
 
   pub count-most : (xs : List X) → count t xs ≤ length xs
   unfolding count
   count-most [] = omega arith
-  count-most (x ∷ xs) = omega (arith, at-most-one (t x), count-most xs)
+  count-most (x ∷ xs) = omega (arith, cond-one-most (t x), count-most xs)
 
   pub count-select : (u : X → Bool) (xs : List X) → count t (select u xs) ≤ count t xs
   unfolding count select
@@ -113,36 +113,38 @@ abbrev pub Distinct : List ℕ → Type 0
 Distinct [] = Unit {0}
 Distinct (x ∷ xs) = (any (eqb x) xs ≡ false) × Distinct xs
 
-remove-length : (x : ℕ) (ys : List ℕ) → any (eqb x) ys ≡ true → suc (length (reject (eqb x) ys)) ≤ length ys
+length-reject-found : (x : ℕ) (ys : List ℕ) → any (eqb x) ys ≡ true → suc (length (reject (eqb x) ys)) ≤ length ys
 unfolding any select
-remove-length x [] h = absurd (false≢true h)
-remove-length x (y ∷ ys) h = go (eqb x y) h (remove-length x ys)
+length-reject-found x [] h = absurd (false≢true h)
+length-reject-found x (y ∷ ys) h = go (eqb x y) h (length-reject-found x ys)
   where
     go : (b : Bool) → b || any (eqb x) ys ≡ true → (any (eqb x) ys ≡ true → suc (length (reject (eqb x) ys)) ≤ length ys)
         → suc (length (cond (not b) (y ∷ reject (eqb x) ys) (reject (eqb x) ys))) ≤ suc (length ys)
     go true g ih = omega (arith, length-select (eqb x) ys)
     go false g ih = omega (arith, ih g)
 
-remove-other : (x z : ℕ) (ys : List ℕ) → eqb x z ≡ false → any (eqb z) ys ≡ true → any (eqb z) (reject (eqb x) ys) ≡ true
+any-reject-other : (x z : ℕ) (ys : List ℕ) → eqb x z ≡ false → any (eqb z) ys ≡ true → any (eqb z) (reject (eqb x) ys) ≡ true
 unfolding any select
-remove-other x z [] n h = absurd (false≢true h)
-remove-other x z (y ∷ ys) n h =
+any-reject-other x z [] n h = absurd (false≢true h)
+any-reject-other x z (y ∷ ys) n h =
     by-cases (eqb z y)
     (λ e. cond-elim (λ l. any (eqb z) l ≡ true) (not (eqb x y)) (y ∷ reject (eqb x) ys) (reject (eqb x) ys)
     (λ g. or-left (eqb z y) _ e) (λ g. absurd (true≢false (sym (ap not (ne-eqb x y (λ q. eqb-false x z n (q ∙ sym (eqb-true z y e))))) ∙ g))))
     (λ e. cond-elim (λ l. any (eqb z) l ≡ true) (not (eqb x y)) (y ∷ reject (eqb x) ys) (reject (eqb x) ys)
-    (λ g. or-right (eqb z y) _ (remove-other x z ys n (or-second (eqb z y) _ h e))) (λ g. remove-other x z ys n (or-second (eqb z y) _ h e)))
+    (λ g. or-right (eqb z y) _ (any-reject-other x z ys n (or-second (eqb z y) _ h e))) (λ g. any-reject-other x z ys n (or-second (eqb z y) _ h e)))
 
-all-other : (x : ℕ) (xs : List ℕ) → any (eqb x) xs ≡ false → All (λ z. eqb x z ≡ false) xs
+all-eqb-other : (x : ℕ) (xs : List ℕ) → any (eqb x) xs ≡ false → All (λ z. eqb x z ≡ false) xs
 unfolding any
-all-other x [] h = tt
-all-other x (z ∷ xs) h = (or-false-left (eqb x z) _ h, all-other x xs (or-false-right (eqb x z) _ h))
+all-eqb-other x [] h = tt
+all-eqb-other x (z ∷ xs) h = (or-false-left (eqb x z) _ h, all-eqb-other x xs (or-false-right (eqb x z) _ h))
 
 -- Different numbers that all stand in a list are no more than it has places.
 pub pigeonhole : (xs ys : List ℕ) → Distinct xs → All (λ x. any (eqb x) ys ≡ true) xs → length xs ≤ length ys
 pigeonhole [] ys d a = omega arith
-pigeonhole (x ∷ xs) ys d a = omega (arith, remove-length x ys (a .0), pigeonhole xs (reject (eqb x) ys) (d .1) (moved xs (all-other x xs (d .0)) (a .1)))
+pigeonhole (x ∷ xs) ys d a =
+    let others = moved xs (all-eqb-other x xs (d .0)) (a .1) in
+    omega (arith, length-reject-found x ys (a .0), pigeonhole xs (reject (eqb x) ys) (d .1) others)
   where
     moved : (zs : List ℕ) → All (λ z. eqb x z ≡ false) zs → All (λ z. any (eqb z) ys ≡ true) zs → All (λ z. any (eqb z) (reject (eqb x) ys) ≡ true) zs
     moved [] p q = tt
-    moved (z ∷ zs) p q = (remove-other x z ys (p .0) (q .0), moved zs (p .1) (q .1))
+    moved (z ∷ zs) p q = (any-reject-other x z ys (p .0) (q .0), moved zs (p .1) (q .1))

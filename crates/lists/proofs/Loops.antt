@@ -12,7 +12,8 @@ module _ {X : Type 0} (step : ℕ → X → X) where
   unfolding iterate
   iterate-holds P zero i x h p = rw (add-zero i) p
   iterate-holds P (suc n) i x h p =
-      rw (add-suc i n, ← (suc-add i n)) (iterate-holds P n (suc i) (step i x) (λ j y a b. h j y (omega arith) (omega arith)) (h i x (omega arith) (omega arith) p))
+      let first : P (suc i) (step i x) = h i x (omega arith) (omega arith) p in
+      rw (add-suc i n, ← (suc-add i n)) (iterate-holds P n (suc i) (step i x) (λ j y a b. h j y (omega arith) (omega arith)) first)
 
   -- What every step keeps holds at the end.
   pub iterate-keeps : (P : X → Type 0) (n i : ℕ) (x : X)

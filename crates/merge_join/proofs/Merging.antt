@@ -175,7 +175,8 @@ module _ {g : Levels} {e : List ℕ} {upper lower : Level} (h : LevelsHeld g e u
       let second : ranges ≡ head (map range-cell (merged u l .ranges)) = rs .head-is ∙ ap head range-cells in
       let rest : upper .held + lower .held - m .gone - k .gone ≡ held (merged u l) = omega (arith, held-rest s r) in
       let early : owed ≡ merged u l .owed = o ∙ rw (ap (λ (v : Level). v .owed) (h .upper-is), ap (λ (v : Level). v .owed) (h .lower-is)) in
+      let last = rw (range-cells, ← frees) at (rs .held) in
       record {
-        held = swapped (g .slots) (g .clock) _ (map range-cell (merged u l .ranges)) (map point-cell (merged u l .points)) (g .others) _ (rw (range-cells, ← frees) at (rs .held));
+        held = swapped (g .slots) (g .clock) _ (map range-cell (merged u l .ranges)) (map point-cell (merged u l .points)) (g .others) _ last;
         level-is = rw (first, second, rest, early);
       }

@@ -44,7 +44,8 @@ module _ (ps : List (Point ℕ ℕ)) (keys : All Keyed ps) where
     fit = all-map point-cell (λ c. cell-hi c ≤ 65535) ps (all-weaken Keyed (λ p. cell-hi (point-cell p) ≤ 65535) (λ p low. rw (point-hi p low) low) ps keys);
   }
 
-  pub points-merge : (qs : List (Point ℕ ℕ)) → All Keyed qs → merge cell-before (map point-cell ps) (map point-cell qs) ≡ map point-cell (merge point-before ps qs)
+  pub points-merge : (qs : List (Point ℕ ℕ)) → All Keyed qs
+      → merge cell-before (map point-cell ps) (map point-cell qs) ≡ map point-cell (merge point-before ps qs)
   points-merge qs = merge-map-where point-cell Keyed point-before cell-before cells-before ps qs keys
 
 -- The deletes among the points, and the puts.

@@ -46,7 +46,8 @@ module _ (rs : List (Range ℕ)) (spans : All Spanned rs) where
     fit = all-map range-cell (λ c. cell-hi c ≤ 65535) rs (all-weaken Spanned (λ r. cell-hi (range-cell r) ≤ 65535) (λ r s. rw (range-hi r s) (s .1)) rs spans);
   }
 
-  pub ranges-merge : (qs : List (Range ℕ)) → All Spanned qs → merge cell-before (map range-cell rs) (map range-cell qs) ≡ map range-cell (merge range-before rs qs)
+  pub ranges-merge : (qs : List (Range ℕ)) → All Spanned qs
+      → merge cell-before (map range-cell rs) (map range-cell qs) ≡ map range-cell (merge range-before rs qs)
   ranges-merge qs = merge-map-where range-cell Spanned range-before cell-before cells-before rs qs spans
 
   -- A range of the same lo and hi is a cell of the same span.

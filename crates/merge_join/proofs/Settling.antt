@@ -58,11 +58,14 @@ module _ {g : Merged} {e : List ℕ} {level : Level} (h : MergedHeld g e level) 
   module _ {e₁ : List ℕ} {m : Cursor} (s : Sifted (doomed Deletes) (point-chain g) e₁ m) where
     pub sieve-ranges-asks : OneHeld (range-chain g) e₁ (level .ranges)
     unfolding settled
-    sieve-ranges-asks = record {
-      held = swapped (g .slots) (g .clock) _ (map point-cell (settled (g .level) .points)) (map range-cell (g .level .ranges)) (g .others) e₁
-          (rw (delete-cells (g .level .points), put-cells (g .level .points), point-cell-slots (reject (λ p. is-put (p .entry)) (g .level .points))) at (s .held));
-      head-is = ap (λ (v : Level). v .ranges) (h .level-is);
-    }
+    sieve-ranges-asks =
+        let points = g .level .points in
+        let slots = point-cell-slots (reject (λ p. is-put (p .entry)) points) in
+        let wiped = rw (delete-cells points, put-cells points, slots) at (s .held) in
+        record {
+          held = swapped (g .slots) (g .clock) _ (map point-cell (settled (g .level) .points)) (map range-cell (g .level .ranges)) (g .others) e₁ wiped;
+          head-is = ap (λ (v : Level). v .ranges) (h .level-is);
+        }
 
     module _ {e₂ : List ℕ} {k : Cursor} (r : Sifted (doomed All) (range-chain g) e₂ k) where
       -- What the settled level holds and what has gone are all that it held.
@@ -85,9 +88,12 @@ module _ {g : Merged} {e : List ℕ} {level : Level} (h : MergedHeld g e level) 
           let frees = release-append deletes (range-slots (g .level .ranges)) (g .free) in
           let first : m .head ≡ head (map point-cell (settled (g .level) .points)) = s .head-is ∙ ap head (put-cells (g .level .points)) in
           let rest : level .held - m .gone - k .gone ≡ held (settled (g .level)) = omega (arith, held-rest) in
+          let ranges = map range-cell (g .level .ranges) in
+          let wiped = rw (all-go ranges, none-stay ranges, range-cell-slots (g .level .ranges), ← frees) at (r .held) in
           record {
-            held = swapped (g .slots) (g .clock) (release (delete-slots (g .level)) (g .free)) [] (map point-cell (settled (g .level) .points)) (g .others) e₂
-                (rw (all-go (map range-cell (g .level .ranges)), none-stay (map range-cell (g .level .ranges)), range-cell-slots (g .level .ranges), ← frees) at (r .held));
+            held =
+                swapped (g .slots) (g .clock) (release (delete-slots (g .level)) (g .free)) [] (map point-cell (settled (g .level) .points)) (g .others) e₂
+                wiped;
             level-is = rw (first, rest);
           }
 

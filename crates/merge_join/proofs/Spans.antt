@@ -46,7 +46,9 @@ module _ (lo hi lo′ hi′ : ℕ) where
   -- Spans are equal where both halves are.
   pub span-equal : lo ≤ 65535 → lo′ ≤ 65535 → eqb (lo + 65536 * hi) (lo′ + 65536 * hi′) ≡ eqb lo lo′ && eqb hi hi′
   span-equal h h′ = bool-ext (eqb (lo + 65536 * hi) (lo′ + 65536 * hi′)) (eqb lo lo′ && eqb hi hi′)
-      (λ q. let e = eqb-true (lo + 65536 * hi) (lo′ + 65536 * hi′) q in and-intro (eqb lo lo′) (eqb hi hi′) (eq-eqb lo lo′ (omega arith)) (eq-eqb hi hi′ (omega arith)))
+      (λ q.
+      let e = eqb-true (lo + 65536 * hi) (lo′ + 65536 * hi′) q in
+      and-intro (eqb lo lo′) (eqb hi hi′) (eq-eqb lo lo′ (omega arith)) (eq-eqb hi hi′ (omega arith)))
       (λ q. eq-eqb (lo + 65536 * hi) (lo′ + 65536 * hi′)
       (omega (arith, eqb-true lo lo′ (and-left (eqb lo lo′) (eqb hi hi′) q), eqb-true hi hi′ (and-right (eqb lo lo′) (eqb hi hi′) q))))
 

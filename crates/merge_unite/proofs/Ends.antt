@@ -31,7 +31,8 @@ uniting-begins g e upper lower h = record {
 
 pub uniting-ends : (g : Chains) (e : List ℕ) (m : Progress) → m .cursor .at ≡ 0 → Uniting g e m → United g e (m .cursor)
 uniting-ends g e m z u =
-    let sifted : Sifted (doubled (g .upper)) (lower-chain g (u .upper)) e (m .cursor) = sifting-ends (doubled (g .upper)) (lower-chain g (u .upper)) e (m .cursor) (u .sifting) z in
+    let lower = lower-chain g (u .upper) in
+    let sifted : Sifted (doubled (g .upper)) lower e (m .cursor) = sifting-ends (doubled (g .upper)) lower e (m .cursor) (u .sifting) z in
     let upper≡ : u .upper ≡ map (later-cell (g .lower)) (g .upper) =
     sym (later-end (u .upper)) ∙ ap (λ (qs : List Cell). map (later-cell qs) (u .upper)) (sym (lower-none g e m u z)) ∙ u .stamps in
     record {

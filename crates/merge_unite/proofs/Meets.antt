@@ -6,6 +6,7 @@ use mathlib.Core.List.{List, _∷_, _++_, map}
 use Prim.Native.Nat.{ℕ, max}
 use native.Mathlib.Omega.{arith}
 use lib.ListN.{length}
+use Rattle.lists.specs.All.{All}
 use Rattle.lists.proofs.Tests.{all-weaken}
 use Rattle.tables.specs.Slots.{stamp-of}
 use Rattle.tables.specs.Placed.{Cell, head}
@@ -20,9 +21,14 @@ use Rattle.chain_cells.proofs.Sieves.{left-length}
 use Rattle.merge_unite.specs.Uniting.{same-span, doubled, later-cell, lower-chain, Uniting, to-see}
 use Rattle.merge_unite.specs.declared.Progress.{Progress}
 use Rattle.merge_unite.proofs.Spans.{after-other, one-span}
-use Rattle.merge_unite.proofs.Stamps.{doubled-here, doubled-stamp, took, later-took, later-past}
+use Rattle.merge_unite.proofs.Stamps.{Apart, doubled-here, doubled-stamp, took, later-took, later-past}
 use Rattle.merge_unite.proofs.Places.{First, lower-first, upper-first, upper-length, upper-cell, lower-cell, left-ordered, passed-apart}
 use Rattle.merge_unite.proofs.Steps.{Seen}
+
+-- What comes after a cell has not the key of its like.
+apart-after : (c d : Cell) (cs : List Cell) → cell-key c ≡ cell-key d → All (λ q. cell-before c q ≡ true) cs → Apart d cs
+apart-after c d cs one after =
+    all-weaken (λ q. cell-before c q ≡ true) (λ q. cell-key q ≢ cell-key d) (λ q h k. after-other c q h (k ∙ sym one)) cs after
 
 module _ (g : Chains) (e : List ℕ) (m : Progress) (u : Uniting g e m) (a : First (u .ahead)) (l : First (u .left))
     (alike : cell-key (cell-at e (m .upper)) ≡ cell-key (cell-at e (m .cursor .at))) where
@@ -54,12 +60,18 @@ module _ (g : Chains) (e : List ℕ) (m : Progress) (u : Uniting g e m) (a : Fir
       ∙ ap (λ (c : Cell). stamped e (m .upper) (max (c .stamp) (l .cell .stamp))) (sym (upper-cell g e m u (a .cell) (a .rest) (a .is)))
       ∙ ap (λ (c : Cell). stamped e (m .upper) (max (stamp-of e (m .upper)) (c .stamp))) (sym (lower-cell g e m u (l .cell) (l .rest) (l .is)))
 
-  held : Held (g .slots) (g .clock) (u .sifting .free) ((u .sifting .done ++ u .sifting .left) ∷ upper ∷ g .others) table
+  -- The lower chain, and the table that holds it with an upper one.
+  abbrev lower : List Cell
+  lower = u .sifting .done ++ u .sifting .left
+
+  abbrev Holds : List Cell → List ℕ → Type 0
+  Holds cs t = Held (g .slots) (g .clock) (u .sifting .free) (lower ∷ cs ∷ g .others) t
+
+  held : Holds upper table
   held =
-      subst (Held (g .slots) (g .clock) (u .sifting .free) ((u .sifting .done ++ u .sifting .left) ∷ upper ∷ g .others)) table-is
-      (restamped (g .slots) (g .clock) (u .sifting .free) (u .sifting .done ++ u .sifting .left) (u .passed) (a .cell) (a .rest) (g .others) e
-      (max (a .cell .stamp) (l .cell .stamp))
-      (subst (λ (cs : List Cell). Held (g .slots) (g .clock) (u .sifting .free) ((u .sifting .done ++ u .sifting .left) ∷ cs ∷ g .others) e) upper-was (u .sifting .here .held)))
+      let was : Holds (u .passed ++ a .cell ∷ a .rest) e = subst (λ (cs : List Cell). Holds cs e) upper-was (u .sifting .here .held) in
+      subst (Holds upper) table-is
+      (restamped (g .slots) (g .clock) (u .sifting .free) lower (u .passed) (a .cell) (a .rest) (g .others) e (max (a .cell .stamp) (l .cell .stamp)) was)
 
   abbrev sifting : Sifting (sift-of (doubled (g .upper)) (lower-chain g upper)) table (m .cursor)
   sifting = record {
@@ -92,11 +104,14 @@ module _ (g : Chains) (e : List ℕ) (m : Progress) (u : Uniting g e m) (a : Fir
     below = u .below;
     upper-ordered = record { ascend = (upper-order .ascend .0, upper-order .ascend .1); fit = (upper-order .fit .0, upper-order .fit .1) };
     lower-ordered = u .lower-ordered;
-    doubles = λ q. doubled-stamp q (u .passed) (a .cell) (max (a .cell .stamp) (l .cell .stamp)) (a .rest) ∙ ap (λ (cs : List Cell). doubled cs q) (sym upper-was) ∙ u .doubles q;
+    doubles =
+        λ q. doubled-stamp q (u .passed) (a .cell) (max (a .cell .stamp) (l .cell .stamp)) (a .rest)
+        ∙ ap (λ (cs : List Cell). doubled cs q) (sym upper-was) ∙ u .doubles q;
     stamps =
         ap (λ (qs : List Cell). map (later-cell qs) upper) (l .is)
         ∙ later-took (l .cell) (l .rest) (u .passed) (a .cell) (a .rest) same
-        ∙ ap (λ (qs : List Cell). map (later-cell qs) (u .passed ++ a .cell ∷ a .rest)) (sym (l .is)) ∙ ap (map (later-cell (u .left))) (sym upper-was) ∙ u .stamps;
+        ∙ ap (λ (qs : List Cell). map (later-cell qs) (u .passed ++ a .cell ∷ a .rest)) (sym (l .is))
+        ∙ ap (map (later-cell (u .left))) (sym upper-was) ∙ u .stamps;
   }
 
   seen : Seen true g table m
@@ -104,16 +119,15 @@ module _ (g : Chains) (e : List ℕ) (m : Progress) (u : Uniting g e m) (a : Fir
   seen =
       let x : Cell = l .cell in
       let c : Cell = a .cell in
+      let again : same-span c x ≡ true = one-span c x (upper-order .fit .0) (lower-order .fit .0) keys in
       record {
         uniting = uniting;
         cell = x;
         rest = l .rest;
         is = l .is;
-        test = sym
-            (sym (u .doubles x) ∙ ap (λ (cs : List Cell). doubled cs x) upper-was ∙ doubled-here x (u .passed) c (a .rest) (one-span c x (upper-order .fit .0) (lower-order .fit .0) keys));
+        test = sym (sym (u .doubles x) ∙ ap (λ (cs : List Cell). doubled cs x) upper-was ∙ doubled-here x (u .passed) c (a .rest) again);
         same = later-past x (l .rest) (u .passed) c (a .rest) same (passed-apart g e m u x (l .rest) (l .is))
-            (all-weaken (λ q. cell-before x q ≡ true) (λ q. cell-key q ≢ cell-key c) (λ q h k. after-other x q h (k ∙ keys)) (l .rest) (lower-order .ascend .0))
-            (all-weaken (λ d. cell-before c d ≡ true) (λ d. cell-key d ≢ cell-key x) (λ d h k. after-other c d h (k ∙ sym keys)) (a .rest) (upper-order .ascend .0));
+            (apart-after x c (l .rest) (sym keys) (lower-order .ascend .0)) (apart-after c x (a .rest) keys (upper-order .ascend .0));
       }
 
   -- There is as much to see as before.
@@ -129,7 +143,8 @@ module _ (g : Chains) (e : List ℕ) (m : Progress) (u : Uniting g e m) (a : Fir
         left-length (sift-of (doubled (g .upper)) (lower-chain g (u .upper))) e (m .cursor) (u .sifting),
       )
 
-module _ (g : Chains) (e e′ : List ℕ) (m : Progress) (lower : m .cursor .at ≢ 0) (upper : m .upper ≢ 0) (alike : cell-key (cell-at e (m .upper)) ≡ cell-key (cell-at e (m .cursor .at)))
+module _ (g : Chains) (e e′ : List ℕ) (m : Progress) (lower : m .cursor .at ≢ 0) (upper : m .upper ≢ 0)
+    (alike : cell-key (cell-at e (m .upper)) ≡ cell-key (cell-at e (m .cursor .at)))
     (stamped≡ : e′ ≡ stamped e (m .upper) (max (stamp-of e (m .upper)) (stamp-of e (m .cursor .at)))) (u : Uniting g e m) where
   pub alike-seen : Seen true g e′ m
   alike-seen = subst (λ (t : List ℕ). Seen true g t m) (sym stamped≡) (seen g e m u (upper-first g e m u upper) (lower-first g e m u lower) alike)

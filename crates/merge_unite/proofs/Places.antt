@@ -58,7 +58,9 @@ module _ (g : Chains) (e : List ℕ) (m : Progress) (u : Uniting g e m) where
   upper-in-table = omega (arith, u .upper-is, place-in-table (g .slots) (g .clock) (u .sifting .free) (u .passed) (u .ahead) beside e upper-held)
 
   pub upper-length : length (chain-from e (m .upper)) ≡ length (u .ahead)
-  upper-length = ap (λ (s : ℕ). length (chain-from e s)) (u .upper-is) ∙ place-length (g .slots) (g .clock) (u .sifting .free) (u .passed) (u .ahead) beside e upper-held
+  upper-length =
+      ap (λ (s : ℕ). length (chain-from e s)) (u .upper-is)
+      ∙ place-length (g .slots) (g .clock) (u .sifting .free) (u .passed) (u .ahead) beside e upper-held
 
   module _ (c : Cell) (cs : List Cell) (a : u .ahead ≡ c ∷ cs) where
     upper-held-at : Held (g .slots) (g .clock) (u .sifting .free) ((u .passed ++ c ∷ cs) ∷ beside) e
@@ -81,7 +83,9 @@ module _ (g : Chains) (e : List ℕ) (m : Progress) (u : Uniting g e m) where
     passed-before = subst (λ (qs : List Cell). All (λ c. All (λ q. cell-before c q ≡ true) qs) (u .passed)) l (u .below)
 
     pub passed-apart : Apart x (u .passed)
-    passed-apart = all-weaken (λ c. All (λ q. cell-before c q ≡ true) (x ∷ xs)) (λ c. cell-key c ≢ cell-key x) (λ c a. before-other c x (a .0)) (u .passed) passed-before
+    passed-apart =
+        all-weaken (λ c. All (λ q. cell-before c q ≡ true) (x ∷ xs)) (λ c. cell-key c ≢ cell-key x)
+        (λ c a. before-other c x (a .0)) (u .passed) passed-before
 
 -- No chain begins at slot 0.
 chain-none : (k : ℕ) (e : List ℕ) → chain k e 0 ≡ []

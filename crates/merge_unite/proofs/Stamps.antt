@@ -30,7 +30,8 @@ doubled-here x [] c cs h = or-left (same-span c x) (doubled cs x) h
 doubled-here x (d ∷ ds) c cs h = or-right (same-span d x) (doubled (ds ++ c ∷ cs) x) (doubled-here x ds c cs h)
 
 -- A stamp does not tell whether a cell doubles another.
-pub doubled-stamp : (x : Cell) (passed : List Cell) (c : Cell) (t : ℕ) (cs : List Cell) → doubled (passed ++ with-stamp c t ∷ cs) x ≡ doubled (passed ++ c ∷ cs) x
+pub doubled-stamp : (x : Cell) (passed : List Cell) (c : Cell) (t : ℕ) (cs : List Cell)
+    → doubled (passed ++ with-stamp c t ∷ cs) x ≡ doubled (passed ++ c ∷ cs) x
 unfolding any
 doubled-stamp x [] c t cs = refl
 doubled-stamp x (d ∷ ds) c t cs = ap (_||_ (same-span d x)) (doubled-stamp x ds c t cs)
@@ -76,9 +77,11 @@ module _ (x : Cell) (xs passed : List Cell) (c : Cell) (cs : List Cell) (same : 
       (later-here x xs (took x c) same ∙ ap (with-stamp c) (omega arith) ∙ sym (later-here x xs c same))
 
   -- … and afterwards x itself makes none.
-  pub later-past : Apart x passed → Apart c xs → Apart x cs → map (later-cell (x ∷ xs)) (passed ++ took x c ∷ cs) ≡ map (later-cell xs) (passed ++ took x c ∷ cs)
+  pub later-past : Apart x passed → Apart c xs → Apart x cs
+      → map (later-cell (x ∷ xs)) (passed ++ took x c ∷ cs) ≡ map (later-cell xs) (passed ++ took x c ∷ cs)
   later-past p a q =
-      let once : later-cell (x ∷ xs) (took x c) ≡ later-cell xs (took x c) = later-here x xs (took x c) same ∙ ap (with-stamp c) (omega arith) ∙ sym (later-none xs (took x c) a) in
+      let once : later-cell (x ∷ xs) (took x c) ≡ later-cell xs (took x c) =
+      later-here x xs (took x c) same ∙ ap (with-stamp c) (omega arith) ∙ sym (later-none xs (took x c) a) in
       append-map (later-cell (x ∷ xs)) passed (took x c ∷ cs)
       ∙ ap (λ (ds : List Cell). ds ++ later-cell (x ∷ xs) (took x c) ∷ map (later-cell (x ∷ xs)) cs) (later-apart x xs passed p)
       ∙ ap (λ (d : Cell). map (later-cell xs) passed ++ d ∷ map (later-cell (x ∷ xs)) cs) once

@@ -21,7 +21,8 @@ use Rattle.merge_unite.specs.Uniting.{doubled, later-cell, lower-chain, 
 use Rattle.merge_unite.specs.declared.Progress.{Progress}
 use Rattle.merge_unite.proofs.Spans.{before-trans}
 use Rattle.merge_unite.proofs.Stamps.{Apart, doubled-apart, later-apart}
-use Rattle.merge_unite.proofs.Places.{First, lower-first, upper-first, upper-length, upper-cell, upper-next, lower-cell, left-ordered, passed-before, passed-apart, upper-none}
+use Rattle.merge_unite.proofs.Places.{First, lower-first, lower-cell, left-ordered, passed-before, passed-apart}
+use Rattle.merge_unite.proofs.Places.{upper-first, upper-length, upper-cell, upper-next, upper-none}
 
 -- One step, which leaves less to see.
 abbrev pub Unites : Chains → List ℕ → Progress → List ℕ → Progress → Type 0
@@ -35,11 +36,13 @@ passes-upper g e m upper next≡ some-lower some-upper less u =
     let a : First (u .ahead) = upper-first g e m u some-upper in
     let x : Cell = l .cell in
     let c : Cell = a .cell in
-    let before : cell-before c x ≡ true =
-    lt-ltb (cell-key c) (cell-key x) (omega (arith, ap cell-key (upper-cell g e m u c (a .rest) (a .is)), ap cell-key (lower-cell g e m u x (l .rest) (l .is)))) in
+    let upper≡ = ap cell-key (upper-cell g e m u c (a .rest) (a .is)) in
+    let lower≡ = ap cell-key (lower-cell g e m u x (l .rest) (l .is)) in
+    let before : cell-before c x ≡ true = lt-ltb (cell-key c) (cell-key x) (omega (arith, upper≡, lower≡)) in
+    let after-lower = left-ordered g e m u x (l .rest) (l .is) .ascend .0 in
     let all-before : All (λ q. cell-before c q ≡ true) (u .left) =
     subst (All (λ q. cell-before c q ≡ true)) (sym (l .is))
-    (before, all-weaken (λ q. cell-before x q ≡ true) (λ q. cell-before c q ≡ true) (λ q h. before-trans c x q before h) (l .rest) (left-ordered g e m u x (l .rest) (l .is) .ascend .0)) in
+    (before, all-weaken (λ q. cell-before x q ≡ true) (λ q. cell-before c q ≡ true) (λ q h. before-trans c x q before h) (l .rest) after-lower) in
     let ordered : CellsOrdered (c ∷ a .rest) = subst CellsOrdered (a .is) (u .upper-ordered) in
     let next : Uniting g e (record { upper = upper; cursor = m .cursor }) = record {
       upper = u .upper;
@@ -74,7 +77,8 @@ module _ (goes : Bool) (g : Chains) (e e′ : List ℕ) (m : Progress) (m′ : C
   passes-lower s =
       let u : Uniting g e m = s .uniting in
       let h : Sift = sift-of (doubled (g .upper)) (lower-chain g (u .upper)) in
-      let test : goes ≡ doubled (g .upper) (cell-at e (m .cursor .at)) = s .test ∙ ap (doubled (g .upper)) (sym (lower-cell g e m u (s .cell) (s .rest) (s .is))) in
+      let here : s .cell ≡ cell-at e (m .cursor .at) = sym (lower-cell g e m u (s .cell) (s .rest) (s .is)) in
+      let test : goes ≡ doubled (g .upper) (cell-at e (m .cursor .at)) = s .test ∙ ap (doubled (g .upper)) here in
       let ordered : CellsOrdered (s .cell ∷ s .rest) = left-ordered g e m u (s .cell) (s .rest) (s .is) in
       let next : Uniting g e′ (record { upper = m .upper; cursor = m′ }) = record {
         upper = u .upper;
@@ -85,8 +89,9 @@ module _ (goes : Bool) (g : Chains) (e e′ : List ℕ) (m : Progress) (m′ : C
         left-is = left-after h e e′ (m .cursor) m′ (u .sifting) (step h (u .sifting) test) ∙ ap (drop 1) (u .left-is ∙ s .is);
         parts = u .parts;
         upper-is = u .upper-is;
-        below = all-weaken (λ c. All (λ q. cell-before c q ≡ true) (s .cell ∷ s .rest)) (λ c. All (λ q. cell-before c q ≡ true) (s .rest)) (λ c a. a .1) (u .passed)
-            (passed-before g e m u (s .cell) (s .rest) (s .is));
+        below =
+            all-weaken (λ c. All (λ q. cell-before c q ≡ true) (s .cell ∷ s .rest)) (λ c. All (λ q. cell-before c q ≡ true) (s .rest))
+            (λ c a. a .1) (u .passed) (passed-before g e m u (s .cell) (s .rest) (s .is));
         upper-ordered = u .upper-ordered;
         lower-ordered = record { ascend = ordered .ascend .1; fit = ordered .fit .1 };
         doubles = u .doubles;
@@ -100,8 +105,9 @@ module _ (g : Chains) (e : List ℕ) (m : Progress) (lower : m .cursor .at ≢ 0
   alone apart =
       let l : First (u .left) = lower-first g e m u lower in
       let x : Cell = l .cell in
-      let none : Apart x (u .upper) = subst (Apart x) (sym (u .parts))
-      (all-append (λ c. cell-key c ≢ cell-key x) (u .passed) (u .ahead) (passed-apart g e m u x (l .rest) (l .is)) (apart x (lower-cell g e m u x (l .rest) (l .is)))) in
+      let behind : Apart x (u .passed) = passed-apart g e m u x (l .rest) (l .is) in
+      let ahead : Apart x (u .ahead) = apart x (lower-cell g e m u x (l .rest) (l .is)) in
+      let none : Apart x (u .upper) = subst (Apart x) (sym (u .parts)) (all-append (λ c. cell-key c ≢ cell-key x) (u .passed) (u .ahead) behind ahead) in
       record {
         uniting = u;
         cell = x;
@@ -122,5 +128,7 @@ module _ (g : Chains) (e : List ℕ) (m : Progress) (lower : m .cursor .at ≢ 0
       let c : Cell = a .cell in
       let ordered : CellsOrdered (c ∷ a .rest) = subst CellsOrdered (a .is) (u .upper-ordered) in
       let below : cell-key x < cell-key c = omega (arith, ap cell-key (upper-cell g e m u c (a .rest) (a .is)), ap cell-key q) in
-      subst (Apart x) (sym (a .is))
-      (omega arith, all-weaken (λ d. cell-before c d ≡ true) (λ d. cell-key d ≢ cell-key x) (λ d h k. absurd (omega (arith, ltb-true (cell-key c) (cell-key d) h))) (a .rest) (ordered .ascend .0)))
+      let after : Apart x (a .rest) =
+      all-weaken (λ d. cell-before c d ≡ true) (λ d. cell-key d ≢ cell-key x)
+      (λ d h k. absurd (omega (arith, ltb-true (cell-key c) (cell-key d) h))) (a .rest) (ordered .ascend .0) in
+      subst (Apart x) (sym (a .is)) (omega arith, after))

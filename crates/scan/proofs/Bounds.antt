@@ -17,6 +17,7 @@ use Rattle.tables.specs.Sound.{table-refusal}
 use Rattle.tables.proofs.Numbers.{tables-refuse-low}
 use Rattle.tables.specs.Placed.{read-state}
 use Rattle.scan.specs.declared.Row.{Row}
+use Rattle.scan.specs.declared.Scanned.{Scanned}
 use Rattle.check_refusal.specs.Dockets.{bad-dockets, docket-refusal}
 use Rattle.scan.specs.Scan.{scan-tables}
 use Rattle.check_refusal.proofs.Refusals.{allowed-high, allowed-order}
@@ -45,7 +46,9 @@ module _ {A : Type 0} where
 
       next-low : lo ≤ hi → model.scan look lo hi room .next < suc hi
       unfolding model.scan
-      next-low order = first-key-low (suc hi) (omega arith) room (live look lo hi) (all-weaken _ _ (λ r l. l .high) (live look lo hi) (live-listed look lo hi order))
+      next-low order =
+          first-key-low (suc hi) (omega arith) room (live look lo hi)
+          (all-weaken _ _ (λ r l. l .high) (live look lo hi) (live-listed look lo hi order))
 
 refusal-low : (e l : List ℕ) (lo hi : ℕ) → docket-refusal e l lo hi ≤ 4
 refusal-low e l lo hi = go (eqb (table-refusal e l) 0) (bad-dockets lo hi) (table-refusal e l) (tables-refuse-low e l)
@@ -55,7 +58,10 @@ refusal-low e l lo hi = go (eqb (table-refusal e l) 0) (bad-dockets lo hi) (tabl
     go true false r h = omega arith
     go false b r h = omega arith
 
-pub answer-low : (e l : List ℕ) (lo hi : ℕ) (rows : List Row) → (scan-tables e l lo hi rows .answer .count ≤ 65536) × (scan-tables e l lo hi rows .answer .next ≤ 65535) × (scan-tables e l lo hi rows .answer .refusal ≤ 4)
+abbrev pub AnswerLow : Scanned → Type 0
+AnswerLow a = (a .count ≤ 65536) × (a .next ≤ 65535) × (a .refusal ≤ 4)
+
+pub answer-low : (e l : List ℕ) (lo hi : ℕ) (rows : List Row) → AnswerLow (scan-tables e l lo hi rows .answer)
 unfolding scan-tables
 answer-low e l lo hi rows = by-cases (eqb (docket-refusal e l lo hi) 0)
     (λ p.

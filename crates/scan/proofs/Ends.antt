@@ -45,7 +45,8 @@ stayed = (
   ),
 )
 
-module _ {M : Type 1} (𝓤 : URA M) (H : Heap 𝓤) (A : Atoms 𝓤) (at-mem : Memory → SProp 𝓤) (run : Routine → Fun 𝓤) (κ₁ κ₂ κ₃ : Lft) (q₁ q₂ q₃ : Share) (e l : RefT (List ℕ)) (lo hi b o : ℕ) (γ : GName) (ys : List Row) where
+module _ {M : Type 1} (𝓤 : URA M) (H : Heap 𝓤) (A : Atoms 𝓤) (at-mem : Memory → SProp 𝓤) (run : Routine → Fun 𝓤)
+    (κ₁ κ₂ κ₃ : Lft) (q₁ q₂ q₃ : Share) (e l : RefT (List ℕ)) (lo hi b o : ℕ) (γ : GName) (ys : List Row) where
   -- the arguments, and their machine values
   abbrev pub args : RefT (List ℕ) × (RefT (List ℕ) × (ℕ × (ℕ × (RefT (List Row) × Unit {0}))))
   args = (e, (l, (lo, (hi, (record { ptr = (b, o); name = γ; now = ys }, tt)))))
@@ -53,19 +54,25 @@ module _ {M : Type 1} (𝓤 : URA M) (H : Heap 𝓤) (A : Atoms 𝓤) (at-mem : 
   abbrev pub vals : List Val × (List Val × (List Val × (List Val × (List Val × Unit {0}))))
   vals = (table-at e ∷ [], (table-at l ∷ [], (vint w32 lo ∷ [], (vint w32 hi ∷ [], (sliceVal (b, o) (length ys) ∷ [], tt)))))
 
+  -- what the rows hold, as their borrow has it
+  abbrev pub Seen : List Row → Item 𝓤
+  Seen zs = ‵ (fobs γ (codedHoleys T.the-row .code (heres T.the-row zs)))
+
   abbrev pub Post : Val → SProp 𝓤
   Post = walkOf 𝓤 H A f.ended stayed (f.clauses 𝓤 H A at-mem run) .post (((κ₁, (κ₂, (κ₃, tt))), (q₁, (q₂, (q₃, tt))), tt, args, vals), tt)
 
   -- what is had at exit, where the rows are zs
   abbrev pub Left : List Row → List (Item 𝓤)
-  Left zs = ‵ (fobs γ (codedHoleys T.the-row .code (heres T.the-row zs))) ∷ ‵ (fbor κ₃ (Held T.the-row (length zs) b o γ)) ∷ ‵ (flft κ₃ q₃) ∷ ‵ (flft κ₁ q₁) ∷ ‵ (flft κ₂ q₂) ∷ []
+  Left zs = Seen zs ∷ ‵ (fbor κ₃ (Held T.the-row (length zs) b o γ)) ∷ ‵ (flft κ₃ q₃) ∷ ‵ (flft κ₁ q₁) ∷ ‵ (flft κ₂ q₂) ∷ []
 
   -- what is had at entry: the tokens and the parameters, and the same taken apart
   abbrev Passed : List (Item 𝓤)
-  Passed = (‵ (flft κ₁ q₁) ⊛ ‵ (flft κ₂ q₂) ⊛ ‵ (flft κ₃ q₃) ⊛ ‵ ftrue) ∷ ‵ (owns (ShrSlice (named 0) κ₁ u32 ∷ ShrSlice (named 1) κ₂ u32 ∷ u32 ∷ u32 ∷ MutSlice (named 2) κ₃ T.the-row ∷ []) args vals) ∷ []
+  Passed = (‵ (flft κ₁ q₁) ⊛ ‵ (flft κ₂ q₂) ⊛ ‵ (flft κ₃ q₃) ⊛ ‵ ftrue)
+      ∷ ‵ (owns (ShrSlice (named 0) κ₁ u32 ∷ ShrSlice (named 1) κ₂ u32 ∷ u32 ∷ u32 ∷ MutSlice (named 2) κ₃ T.the-row ∷ []) args vals)
+      ∷ []
 
   abbrev pub Taken : Item 𝓤
-  Taken = Tokens κ₁ κ₂ q₁ q₂ ⊛ Both κ₁ κ₂ e l ⊛ ‵ (flft κ₃ q₃) ⊛ ‵ (fobs γ (codedHoleys T.the-row .code (heres T.the-row ys))) ⊛ ‵ (fbor κ₃ (Held T.the-row (length ys) b o γ))
+  Taken = Tokens κ₁ κ₂ q₁ q₂ ⊛ Both κ₁ κ₂ e l ⊛ ‵ (flft κ₃ q₃) ⊛ Seen ys ⊛ ‵ (fbor κ₃ (Held T.the-row (length ys) b o γ))
 
   module _ (W : Given 𝓤 H A) where
     pub taken : ent 𝓤 (⋆ 𝓤 H A Passed) (mean 𝓤 H A Taken)
@@ -77,12 +84,17 @@ module _ {M : Type 1} (𝓤 : URA M) (H : Heap 𝓤) (A : Atoms 𝓤) (at-mem : 
         -- [obs; the borrow; true; levels; entries; the token of the rows]
         move ! (4 ∷ 3 ∷ []) $ join ! $ frame ! $ keep ! (3 ∷ 0 ∷ 1 ∷ []) $ done !
 
-    pub exits : (zs : List Row) → length zs ≡ length ys → Room T.the-row (length ys) → (a : Scanned) (w : Val) → Is C.the-row a (w ∷ []) → _≡_ {A = Outcome} (record { answer = a; rows = zs }) (scan-tables (e .now) (l .now) lo hi ys)
+    pub exits : (zs : List Row) → length zs ≡ length ys → Room T.the-row (length ys) → (a : Scanned) (w : Val) → Is C.the-row a (w ∷ [])
+        → _≡_ {A = Outcome} (record { answer = a; rows = zs }) (scan-tables (e .now) (l .now) lo hi ys)
         → ent 𝓤 (⋆ 𝓤 H A (Left zs)) (Post w)
     exits zs len room a w is answers =
-        qed W (Left zs) ∵ suffices ! _ (ends-at 𝓤 H A f.ended stayed (f.clauses 𝓤 H A at-mem run) W (((κ₁, (κ₂, (κ₃, tt))), (q₁, (q₂, (q₃, tt))), tt, args, vals), tt) w a (tt, (tt, (tt, (tt, (zs, tt))))) (tt, (tt, (tt, (tt, (len, tt)))))) $
+        qed W (Left zs) ∵
+        suffices ! _ (ends-at 𝓤 H A f.ended stayed (f.clauses 𝓤 H A at-mem run) W (((κ₁, (κ₂, (κ₃, tt))), (q₁, (q₂, (q₃, tt))), tt, args, vals), tt) w a
+        (tt, (tt, (tt, (tt, (zs, tt))))) (tt, (tt, (tt, (tt, (len, tt)))))) $
         says ! answers $ nothing ! $ move ! (3 ∷ 0 ∷ []) $ join ! $ move ! (4 ∷ 0 ∷ []) $ join ! $ move ! (3 ∷ 0 ∷ []) $ join ! $ frame ! $
         -- [obs; the borrow]
-        fjoin ! $ pureI ! (at-slice T.the-row (record { ptr = (b, o); name = γ; now = zs }) (vals .1 .1 .1 .1 .0)) (tt, (tt, tt)) (ap (λ (k : ℕ). sliceVal (b, o) k ∷ []) (sym len), subst (Room T.the-row) (sym len) room) $ fjoin ! $
+        fjoin ! $
+        pureI ! (at-slice T.the-row (record { ptr = (b, o); name = γ; now = zs }) (vals .1 .1 .1 .1 .0)) (tt, (tt, tt))
+        (ap (λ (k : ℕ). sliceVal (b, o) k ∷ []) (sym len), subst (Room T.the-row) (sym len) room) $ fjoin ! $
         nothing ! $ move ! (1 ∷ 0 ∷ []) $ fjoin ! $ nothing ! $ fjoin ! $ nothing ! $ fjoin ! $ nothing ! $ fjoin ! $ nothing ! $ fjoin ! $ frame ! $
         owned ! C.the-row (Is C.the-row) (LL.makes C.the-type C′.the-plain 𝓤 H A) a _ is $ done !

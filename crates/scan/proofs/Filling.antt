@@ -48,7 +48,8 @@ module _ {A B : Type 0} (f : A → B) where
   length-so-far (a ∷ xs) (y ∷ ys) (suc i) h k = ap suc (length-so-far xs ys i (omega arith) (omega arith))
 
   -- The next store.
-  pub set-so-far : (xs : List A) (ys : List B) (i : ℕ) (r : A) (rs : List A) → drop i xs ≡ r ∷ rs → i < length ys → set (so-far xs ys i) i (f r) ≡ so-far xs ys (suc i)
+  pub set-so-far : (xs : List A) (ys : List B) (i : ℕ) (r : A) (rs : List A) → drop i xs ≡ r ∷ rs → i < length ys
+      → set (so-far xs ys i) i (f r) ≡ so-far xs ys (suc i)
   set-so-far xs [] i r rs e h = absurd (omega arith)
   set-so-far [] (y ∷ ys) i r rs e h = absurd (omega (arith, drop-inside [] i r rs e))
   set-so-far (a ∷ xs) (y ∷ ys) zero r rs e h = ap (λ (q : List A). f (first-or a q) ∷ ys) (sym e)

@@ -87,7 +87,8 @@ module _ (e l : List ℕ) (lo hi : ℕ) (ys : List Row) (i : ℕ) (m : Sweep) (h
     counted : length (take i all) ≡ i
     counted = omega (arith, length-take i all, h .inside)
 
-    same : take (length ys) all ≡ take i all → ltb (length ys) (length all) ≡ is-live m → model.first-key (drop (length ys) all) ≡ cond (is-live m) (m .key) 0 → Filled (closed m i 0)
+    same : take (length ys) all ≡ take i all → ltb (length ys) (length all) ≡ is-live m
+        → model.first-key (drop (length ys) all) ≡ cond (is-live m) (m .key) 0 → Filled (closed m i 0)
     unfolding model.scan
     same p q s = rw (p, q, s, counted)
 

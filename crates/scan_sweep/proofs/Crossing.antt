@@ -59,7 +59,8 @@ module _ {e : List ℕ} {m : Sweep} (words : Fits32 e) (s : Sweeping e m) where
     crossing : Stepped e m (gone e v (ltb (v .cover) (next-level m)))
     crossing =
         let inside = level-inside (s .points) (omega (arith, s .last)) in
-        let st = gone-stepped words viewing-sweeping le (ltb (v .cover) (next-level m)) (sym (view .covers (next-key m) (next-level m) (omega arith) (view .past) (omega arith))) in
+        let covered = view .covers (next-key m) (next-level m) (omega arith) (view .past) (omega arith) in
+        let st = gone-stepped words viewing-sweeping le (ltb (v .cover) (next-level m)) (sym covered) in
         record { sweeping = st .sweeping; leads = sym viewing-rest ∙ st .leads; fewer = st .fewer }
 
   pub step-stepped : Stepped e m (step-of e m)

@@ -26,4 +26,5 @@ module _ (e l line output e' l' line' output' : List ℕ) (m m' : Progress) (sam
   same-output = sym (take-append-drop (m .waiting) output) ∙ ap (λ s. s .waiting ++ s .output-rest) same ∙ take-append-drop (m' .waiting) output'
 
   pub same-progress : m .length ≤ length line → m' .length ≤ length line' → m .waiting ≤ length output → m' .waiting ≤ length output' → m ≡ m'
-  same-progress kept kept' waits waits' = sym (progress-told e l line output m kept waits) ∙ ap progress-of same ∙ progress-told e' l' line' output' m' kept' waits'
+  same-progress kept kept' waits waits' =
+      sym (progress-told e l line output m kept waits) ∙ ap progress-of same ∙ progress-told e' l' line' output' m' kept' waits'

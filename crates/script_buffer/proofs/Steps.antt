@@ -31,8 +31,9 @@ keep-none line byte room =
 -- A line with room keeps a byte.
 pub keep-one : (line : List ℕ) (count byte : ℕ) → length line ≡ 64 → count < 64 → Keeps line count byte (set line count byte) (count + 1)
 keep-one line count byte room few =
-    let short : length (take count line ++ (byte ∷ [])) ≤ 64 = omega (arith, length-append (take count line) (byte ∷ []), length-take-le count line (omega arith)) in (
-      rw (add-one count, take-suc-set line count byte (omega arith)) (sym (take-all 64 (take count line ++ (byte ∷ [])) short)),
+    let longer = take count line ++ (byte ∷ []) in
+    let short : length longer ≤ 64 = omega (arith, length-append (take count line) (byte ∷ []), length-take-le count line (omega arith)) in (
+      rw (add-one count, take-suc-set line count byte (omega arith)) (sym (take-all 64 longer short)),
       drop-set-lt (count + 1) line count byte (omega arith) ∙ sym (drop-drop 1 count line),
     )
 
@@ -40,18 +41,31 @@ keep-one line count byte room few =
 abbrev pub Waits : List ℕ → ℕ → List ℕ → ℕ → List ℕ → Type 0
 Waits output at text end output' = (take end output' ≡ take at output ++ text) × (drop end output' ≡ drop (length text) (drop at output))
 
-pub waits : (output output' text : List ℕ) (at end : ℕ) → at + length text ≤ length output → Printed output at text end output' → Waits output at text end output'
+pub waits : (output output' text : List ℕ) (at end : ℕ) → at + length text ≤ length output → Printed output at text end output'
+    → Waits output at text end output'
 unfolding overwrite
 waits output output' text at end room printed =
     let before = take at output in
-    let after = drop (at + length text) output in
-    let whole : length (before ++ text) ≡ at + length text = length-append before text ∙ ap (λ n. n + length text) (length-take-le at output (omega arith)) in
-    rw (printed .0, printed .1, sym (append-assoc before text after), take-at (before ++ text) after (at + length text) whole, drop-at (before ++ text) after (at + length text) whole)
+    let past = at + length text in
+    let after = drop past output in
+    let whole : length (before ++ text) ≡ past = length-append before text ∙ ap (λ n. n + length text) (length-take-le at output (omega arith)) in
+    let kept = take-at (before ++ text) after past whole in
+    let left = drop-at (before ++ text) after past whole in
+    rw (printed .0, printed .1, sym (append-assoc before text after), kept, left)
     (refl, sym (drop-drop (length text) at output))
 
 -- The progress after a line.
 abbrev pub after-line : Turn → ℕ → Progress
 after-line turn waiting = record { slots = turn .slots; deepest = turn .deepest; length = 0; waiting = waiting }
+
+-- The progress with so many bytes of a line kept.
+abbrev pub after-byte : Progress → ℕ → Progress
+after-byte m count = record { slots = m .slots; deepest = m .deepest; length = count; waiting = m .waiting }
+
+-- A line feed ends the line.
+pub takes-end : (byte : ℕ) (s s' : Standing) → byte ≡ 10 → s' ≡ ended s → s' ≡ taken byte s
+unfolding taken
+takes-end byte s s' is ends = rw (eq-eqb byte 10 is) ends
 
 module _ (e l line output : List ℕ) (m : Progress) where
   -- A line carried out and its answer printed.
@@ -66,12 +80,8 @@ module _ (e l line output : List ℕ) (m : Progress) where
       let shown = waits output output' text (m .waiting) waiting (omega (arith, few)) printed in
       rw (shown .0, shown .1, ← told, take-append-drop (m .length) line)
 
-  -- A line feed, and another byte.
-  pub takes-end : (byte : ℕ) (s : Standing) → byte ≡ 10 → s ≡ ended (standing e l line output m) → s ≡ taken byte (standing e l line output m)
-  unfolding taken
-  takes-end byte s is ends = rw (eq-eqb byte 10 is) ends
-
+  -- Another byte is kept.
   pub takes-byte : (byte count : ℕ) (line' : List ℕ) → (byte ≡ 10 → ⊥) → Keeps line (m .length) byte line' count
-      → standing e l line' output (record { slots = m .slots; deepest = m .deepest; length = count; waiting = m .waiting }) ≡ taken byte (standing e l line output m)
+      → standing e l line' output (after-byte m count) ≡ taken byte (standing e l line output m)
   unfolding taken
   takes-byte byte count line' other keeps = rw (ne-eqb byte 10 other, keeps .0, keeps .1)

@@ -49,7 +49,7 @@ module _ (n : ℕ) (line : Taking (suc n)) (text : List ℕ) where
     one-field = by-cases (leb (length text) at) (λ p. field-past (leb-true (length text) at p)) (λ p. field-inside (leb-false (length text) at p))
 
     module _ {field : Field} (told : field ≡ field-of at (drop at text)) where
-      pub missing : field ≡ Missing → fields (suc n) line (drop at text) ≡ Unreadable
+      missing : field ≡ Missing → fields (suc n) line (drop at text) ≡ Unreadable
       missing is = one-field ∙ ap (taken n line text) (sym told ∙ is)
 
       pub next : {v end : ℕ} → field ≡ Number v end → fields (suc n) line (drop at text) ≡ fields n (line v) (drop end text)
@@ -76,8 +76,33 @@ module _ (line : Taking 1) (text : List ℕ) where
     whole : fields 1 line (drop at text) ≡ finished line field
     whole = one-field 0 line text at ∙ ended (field-of at (drop at text)) ∙ ap (finished line) (sym told)
 
-    pub missing-last : field ≡ Missing → fields 1 line (drop at text) ≡ Unreadable
+    missing-last : field ≡ Missing → fields 1 line (drop at text) ≡ Unreadable
     missing-last is = whole ∙ ap (finished line) is
 
-    pub last : {v end : ℕ} → field ≡ Number v end → fields 1 line (drop at text) ≡ Is (line v)
+    last : {v end : ℕ} → field ≡ Number v end → fields 1 line (drop at text) ≡ Is (line v)
     last is = whole ∙ ap (finished line) is
+
+-- Some numbers of a line are read: the n that are left, from a position on, make the same line.
+pub record Rest (k : ℕ) (whole : Taking k) (text : List ℕ) (n : ℕ) : Type 0 where
+  pub command : Taking n
+  pub at : ℕ
+  pub same : fields k whole (drop 1 text) ≡ fields n command (drop at text)
+
+abbrev pub none-read : (k : ℕ) (whole : Taking k) (text : List ℕ) → Rest k whole text k
+none-read k whole text = record { command = whole; at = 1; same = refl }
+
+module _ {k : ℕ} {whole : Taking k} {text : List ℕ} where
+  module _ {n : ℕ} (rest : Rest k whole text (suc n)) {field : Field} (told : field ≡ field-of (rest .at) (drop (rest .at) text)) where
+    -- A number is read, and the others are left.
+    abbrev pub one-read : {v end : ℕ} → field ≡ Number v end → Rest k whole text n
+    one-read {v} {end} is = record { command = rest .command v; at = end; same = rest .same ∙ next n (rest .command) text (rest .at) told is }
+
+    pub none-there : field ≡ Missing → Unreadable ≡ fields k whole (drop 1 text)
+    none-there is = sym (rest .same ∙ missing n (rest .command) text (rest .at) told is)
+
+  module _ (rest : Rest k whole text 1) {field : Field} (told : field ≡ last-of text (field-of (rest .at) (drop (rest .at) text))) where
+    pub all-read : {v end : ℕ} → field ≡ Number v end → Is (rest .command v) ≡ fields k whole (drop 1 text)
+    all-read is = sym (rest .same ∙ last (rest .command) text (rest .at) told is)
+
+    pub no-last : field ≡ Missing → Unreadable ≡ fields k whole (drop 1 text)
+    no-last is = sym (rest .same ∙ missing-last (rest .command) text (rest .at) told is)

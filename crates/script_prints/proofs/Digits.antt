@@ -50,8 +50,10 @@ length-field n ending = omega (arith, length-snoc (decimal-text n) ending, lengt
 pub length-numbers : (first second third : ℕ) → length (numbers-text first second third) ≤ 33
 unfolding numbers-text
 length-numbers first second third =
-    let rest = field-text second 32 ++ field-text third 10 in
-    omega (arith, length-append (field-text first 32) rest, length-append (field-text second 32) (field-text third 10), length-field first 32, length-field second 32, length-field third 10)
+    let one = field-text first 32 in
+    let two = field-text second 32 in
+    let three = field-text third 10 in
+    omega (arith, length-append one (two ++ three), length-append two three, length-field first 32, length-field second 32, length-field third 10)
 
 -- As many digits as there are make the number whole.
 pub digits-exact : (most n : ℕ) → digits-within (length (digits-within most n)) n ≡ digits-within most n
@@ -60,7 +62,9 @@ digits-exact zero n = refl
 digits-exact (suc most) n =
     by-ten n
     (λ s. rw (length-one most n s, one-digit most n s) (one-digit 0 n s))
-    (λ l. rw (length-more most n l, more-digits most n l, more-digits (length (digits-within most (n / 10))) n l) (ap (λ ds. ds ++ last-digit n) (digits-exact most (n / 10))))
+    (λ l.
+    let before = digits-within most (n / 10) in
+    rw (length-more most n l, more-digits most n l, more-digits (length before) n l) (ap (λ ds. ds ++ last-digit n) (digits-exact most (n / 10))))
 
 -- Of as many digits as a number has, the last stands after those of the tenth part.
 pub last-of-exact : (left n : ℕ) → length (digits-within (suc left) n) ≡ suc left → digits-within (suc left) n ≡ digits-within left (n / 10) ++ last-digit n
@@ -73,16 +77,21 @@ abbrev pub Within : ℕ → ℕ → Type 0
 Within zero n = n ≡ 0
 Within (suc most) n = Within most (n / 10)
 
+-- A statement of a number and its digits, of every number of one digit, and handed on from the tenth part of every other.
+abbrev pub OfOne : (ℕ → List ℕ → Type 0) → Type 0
+OfOne P = (n : ℕ) → n < 10 → P n (last-digit n)
+
+abbrev pub OfMore : (ℕ → List ℕ → Type 0) → Type 0
+OfMore P = (n : ℕ) (ds : List ℕ) → 10 ≤ n → P (n / 10) ds → P n (ds ++ last-digit n)
+
 -- What holds of a digit, and is handed on from the tenth part of a number, holds of the digits of every number that they are enough for.
-pub by-digits : (P : ℕ → List ℕ → Type 0) → ((n : ℕ) → n < 10 → P n (last-digit n)) → ((n : ℕ) (ds : List ℕ) → 10 ≤ n → P (n / 10) ds → P n (ds ++ last-digit n))
-    → (most n : ℕ) → Within (suc most) n → P n (digits-within (suc most) n)
+pub by-digits : (P : ℕ → List ℕ → Type 0) → OfOne P → OfMore P → (most n : ℕ) → Within (suc most) n → P n (digits-within (suc most) n)
 by-digits P one more zero n w = rw (one-digit 0 n (omega arith)) (one n (omega arith))
 by-digits P one more (suc most) n w =
     by-ten n
     (λ s. rw (one-digit (suc most) n s) (one n s))
     (λ l. rw (more-digits (suc most) n l) (more n (digits-within (suc most) (n / 10)) l (by-digits P one more most (n / 10) w)))
 
-pub by-decimal : (P : ℕ → List ℕ → Type 0) → ((n : ℕ) → n < 10 → P n (last-digit n)) → ((n : ℕ) (ds : List ℕ) → 10 ≤ n → P (n / 10) ds → P n (ds ++ last-digit n))
-    → (n : ℕ) → n < 10000000000 → P n (decimal-text n)
+pub by-decimal : (P : ℕ → List ℕ → Type 0) → OfOne P → OfMore P → (n : ℕ) → n < 10000000000 → P n (decimal-text n)
 unfolding decimal-text
 by-decimal P one more n small = by-digits P one more 9 n (omega arith)

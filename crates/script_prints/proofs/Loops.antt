@@ -50,7 +50,8 @@ module _ (entry : List ℕ) (start number : ℕ) where
       → Printing entry start number (set out (at - 1) (48 + rest % 10)) (at - 1) (rest / 10)
   print-one out at rest p before = go (p .left) (p .place) (p .exact) (p .whole)
     where
-      go : (left : ℕ) → at ≡ start + left → length (digits-within left rest) ≡ left → overwrite out start (digits-within left rest) ≡ overwrite entry start (decimal-text number)
+      go : (left : ℕ) → at ≡ start + left → length (digits-within left rest) ≡ left
+          → overwrite out start (digits-within left rest) ≡ overwrite entry start (decimal-text number)
           → Printing entry start number (set out (at - 1) (48 + rest % 10)) (at - 1) (rest / 10)
       go zero e x w = absurd (omega arith)
       go (suc left) e x w =

@@ -48,7 +48,8 @@ pub overwrite-last : (bytes : List ℕ) (at : ℕ) (text : List ℕ) (byte : ℕ
     → overwrite (set bytes (at + length text) byte) at text ≡ overwrite bytes at (text ++ (byte ∷ []))
 unfolding overwrite
 overwrite-last bytes at text byte room =
-    rw (take-set-le at bytes (at + length text) byte (omega arith), drop-set bytes (at + length text) byte room, length-snoc text byte, add-suc at (length text))
+    let last = at + length text in
+    rw (take-set-le at bytes last byte (omega arith), drop-set bytes last byte room, length-snoc text byte, add-suc at (length text))
     (simp append-assoc)
 
 -- A text was printed from a position on, which leaves the bytes and the position after it.

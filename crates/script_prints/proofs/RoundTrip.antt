@@ -32,7 +32,10 @@ abbrev pub Digit : ℕ → Type 0
 Digit byte = (code "0" ≤ byte) × (byte ≤ code "9")
 
 pub all-digits : (n : ℕ) → n < 10000000000 → All Digit (decimal-text n)
-all-digits = by-decimal (λ n. All Digit) (λ n small. ((omega arith, omega arith), tt)) (λ n ds large digits. all-append Digit ds (last-digit n) digits ((omega arith, omega arith), tt))
+all-digits =
+    by-decimal (λ n. All Digit)
+    (λ n small. ((omega arith, omega arith), tt))
+    (λ n ds large digits. all-append Digit ds (last-digit n) digits ((omega arith, omega arith), tt))
 
 -- A first byte above "0" stays first.
 first-of-append : (ds es : List ℕ) → 48 < getD ds 0 48 → 48 < getD (ds ++ es) 0 48

@@ -27,14 +27,18 @@ output-as-numbers m (line ∷ lines) =
     ap (λ x. text-of (r .printed) ++ x) (output-as-numbers (r .memory) lines)
 
 -- An input of these lines, which print these numbers, prints their texts.
-printing : (input output : List ℕ) (lines : List String) (numbers : List Printed) → lines-in input ≡ map bytes lines → prints no-store lines ≡ numbers → texts numbers ≡ output
+printing : (input output : List ℕ) (lines : List String) (numbers : List Printed) → lines-in input ≡ map bytes lines
+    → prints no-store lines ≡ numbers → texts numbers ≡ output
     → output-of no-store (lines-in input) ≡ output
 printing input output lines numbers split run text = ap (output-of no-store) split ∙ output-as-numbers no-store lines ∙ ap texts run ∙ text
 
+-- The lines of document 01's script.
+abbrev script-lines : List String
+script-lines = "M 6 3 2 2 9" ∷ "P 1 7 70" ∷ "P 1 8 80" ∷ "D 2 7" ∷ "P 3 9 90" ∷ "G 7" ∷ "P 4 7 71" ∷ "T 5" ∷ "G 7" ∷ "T 11" ∷ "F 10" ∷ []
+
 document-script : output-of no-store (lines-in (bytes script-input)) ≡ bytes script-output
 unfolding bytes lines-in before-lines texts numbers-text decimal-text digits-within
-document-script =
-    printing (bytes script-input) (bytes script-output) ("M 6 3 2 2 9" ∷ "P 1 7 70" ∷ "P 1 8 80" ∷ "D 2 7" ∷ "P 3 9 90" ∷ "G 7" ∷ "P 4 7 71" ∷ "T 5" ∷ "G 7" ∷ "T 11" ∷ "F 10" ∷ []) _ refl (script.cases .script) refl
+document-script = printing (bytes script-input) (bytes script-output) script-lines _ refl (script.cases .script) refl
 
 pub cases : CaseTable
 unfolding bytes lines-in before-lines output-of numbers-text decimal-text digits-within digits decimal fields line-of command-step line-step

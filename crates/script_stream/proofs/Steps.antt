@@ -18,12 +18,15 @@ module _ (e l line output : List ℕ) (m : Progress) where
   unfolding finished
   finishes-none none = rw (none)
 
-  pub finishes-line : (s : Standing) → Ready e l line m → (m .length ≡ 0 → ⊥) → s ≡ ended (standing e l line output m) → s ≡ finished (standing e l line output m)
+  pub finishes-line : (s : Standing) → Ready e l line m → (m .length ≡ 0 → ⊥) → s ≡ ended (standing e l line output m)
+      → s ≡ finished (standing e l line output m)
   unfolding finished
-  finishes-line s ready some ends = rw (length-take-le (m .length) line (omega (arith, ready .within, ready .line-room)), ne-eqb (m .length) 0 some) ends
+  finishes-line s ready some ends =
+      rw (length-take-le (m .length) line (omega (arith, ready .within, ready .line-room)), ne-eqb (m .length) 0 some) ends
 
   -- What waited was written out, and the script goes on in the same room with none that waits.
-  pub goes-on : standing e l line output (record { slots = m .slots; deepest = m .deepest; length = m .length; waiting = 0 }) ≡ written (standing e l line output m)
+  pub goes-on : standing e l line output (record { slots = m .slots; deepest = m .deepest; length = m .length; waiting = 0 })
+      ≡ written (standing e l line output m)
   goes-on = rw (take-append-drop (m .waiting) output)
 
 -- Between two bytes of a block: the bytes that are left lead from where the script stands to where the block leads.
@@ -35,7 +38,8 @@ pub record Between (block : List ℕ) (room : ℕ) (m₀ : Progress) (goal : Sta
   pub leads : fed (drop i block) (standing e l line output m) ≡ goal
 
 -- The byte at a position was taken, and the bytes after it lead to the same.
-pub feeds-one : (block : List ℕ) (i : ℕ) (s s' goal : Standing) → i < length block → fed (drop i block) s ≡ goal → s' ≡ taken (getD block i 0) s → fed (drop (i + 1) block) s' ≡ goal
+pub feeds-one : (block : List ℕ) (i : ℕ) (s s' goal : Standing) → i < length block → fed (drop i block) s ≡ goal
+    → s' ≡ taken (getD block i 0) s → fed (drop (i + 1) block) s' ≡ goal
 unfolding fed
 feeds-one block i s s' goal within leads is =
     rw (is, add-one i) (subst (λ bytes. fed bytes s ≡ goal) (drop-cons block i 0 within) leads)

@@ -73,7 +73,8 @@ unfolding finished begun-line output-of
 finish-writes s [] is = rw (is) (sym (append-nil (s .waiting)))
 finish-writes s (byte ∷ line) is =
     let some : length (s .line) ≡ suc (length (take 63 line)) = ap length is in
-    rw (begun-last byte line, ne-eqb (length (s .line)) 0 (λ none. omega (arith, none, some))) (sym (append-nil (ended s .waiting)) ∙ end-writes s (byte ∷ line) [] is)
+    rw (begun-last byte line, ne-eqb (length (s .line)) 0 (λ none. omega (arith, none, some)))
+    (sym (append-nil (ended s .waiting)) ∙ end-writes s (byte ∷ line) [] is)
 
 -- One byte came: the line that has begun has ended, or it goes on.
 module _ (byte : ℕ) (s : Standing) (line rest : List ℕ) (is : s .line ≡ take 64 line) where
@@ -94,17 +95,23 @@ module _ (byte : ℕ) (s : Standing) (line rest : List ℕ) (is : s .line ≡ ta
   unfolding taken lines-in
   longer-writes other = rw (other, begun-on line byte (lines-in rest)) refl
 
-module _ (blocks : List (List ℕ)) (later : (s : Standing) (line : List ℕ) → s .line ≡ take 64 line → writes blocks s ≡ with-lines s (begun-line line (lines-in (flatten blocks)))) where
+-- Of which line the first 64 bytes are kept does not matter: the blocks write what the line that has begun and the others print.
+abbrev Write : List (List ℕ) → Type 0
+Write blocks = (s : Standing) (line : List ℕ) → s .line ≡ take 64 line → writes blocks s ≡ with-lines s (begun-line line (lines-in (flatten blocks)))
+
+module _ (blocks : List (List ℕ)) (later : Write blocks) where
   block-writes : (block : List ℕ) (s : Standing) (line : List ℕ) → s .line ≡ take 64 line
       → fed block s .waiting ++ writes blocks (written (fed block s)) ≡ with-lines s (begun-line line (lines-in (block ++ flatten blocks)))
   unfolding fed begun-line
   block-writes [] s line is = ap (λ x. s .waiting ++ x) (later (written s) line is)
   block-writes (byte ∷ block) s line is =
+      let rest = block ++ flatten blocks in
       by-cases (eqb byte 10)
-      (λ feed. block-writes block (taken byte s) [] (ended-line byte s line (block ++ flatten blocks) is feed) ∙ ended-writes byte s line (block ++ flatten blocks) is feed)
-      (λ other. block-writes block (taken byte s) (line ++ (byte ∷ [])) (longer-line byte s line (block ++ flatten blocks) is other) ∙ longer-writes byte s line (block ++ flatten blocks) is other)
+      (λ feed. block-writes block (taken byte s) [] (ended-line byte s line rest is feed) ∙ ended-writes byte s line rest is feed)
+      (λ other.
+      block-writes block (taken byte s) (line ++ (byte ∷ [])) (longer-line byte s line rest is other) ∙ longer-writes byte s line rest is other)
 
-blocks-write : (blocks : List (List ℕ)) (s : Standing) (line : List ℕ) → s .line ≡ take 64 line → writes blocks s ≡ with-lines s (begun-line line (lines-in (flatten blocks)))
+blocks-write : (blocks : List (List ℕ)) → Write blocks
 unfolding writes flatten lines-in
 blocks-write [] s line is = finish-writes s line is
 blocks-write (block ∷ blocks) s line is = block-writes blocks (blocks-write blocks) block s line is
@@ -114,6 +121,7 @@ abbrev pub begun : Memory → List ℕ → List ℕ → Standing
 begun m line output = record { memory = m; line = []; line-rest = line; waiting = []; output-rest = output }
 
 -- For every input in whatever blocks: what the program writes out is what the input's lines print.
-pub writes-as-lines : (m : Memory) (line output : List ℕ) (blocks : List (List ℕ)) → writes blocks (begun m line output) ≡ output-of m (lines-in (flatten blocks))
+pub writes-as-lines : (m : Memory) (line output : List ℕ) (blocks : List (List ℕ))
+    → writes blocks (begun m line output) ≡ output-of m (lines-in (flatten blocks))
 unfolding begun-line
 writes-as-lines m line output blocks = blocks-write blocks (begun m line output) [] refl

@@ -1,4 +1,4 @@
--- `chain_cells::splice` meets its contract. The loop's invariant: whatever two chains the table held, it is on the way to their merge.
+-- `chain_cells::splice`: the loop keeps that, whatever two chains the table held, it is on the way to their merge, and each turn leaves less to do.
 use mathlib.Core.Path.{_≡_, refl}
 use borrow.Author.Needs.{needs}
 use lib.ListN.{length}
@@ -13,27 +13,46 @@ Inv-loop e₀ upper lower m₀ e m = (length e ≡ length e₀) × ((g : Chains)
 abbrev μ-loop : tie.MeasureT-loop
 μ-loop e₀ upper lower m₀ e m = to-do e m
 
+-- Where the code stands: at its entry, at the loop's head, and with the step taken.
+abbrev entry : tie.At-loop Inv-loop μ-loop → tie.Start Inv-loop μ-loop
+entry c = c .before .before
+
+abbrev turn : tie.After-splice-step-arg Inv-loop μ-loop → tie.At-loop Inv-loop μ-loop
+turn c = c .before .before .before
+
+abbrev stepped : tie.After-slice-known2 Inv-loop μ-loop → tie.After-splice-step Inv-loop μ-loop
+stepped c = c .before .before
+
+-- Every two chains that the table held at the entry are on the way to their merge.
+on-the-way : (c : tie.At-loop Inv-loop μ-loop) (g : Chains) → TwoHeld g (entry c .args .e .now) (entry c .args .upper) (entry c .args .lower)
+    → Splicing (splice-of g) (c .loop .e) (c .loop .m)
+on-the-way c = c .loop .inv .1
+
 loop-holds : tie.Need-loop-holds Inv-loop μ-loop
 loop-holds c = (refl, λ g h. splicing-begins g _ _ _ h)
 
 splice-step-requires : tie.Need-splice-step-requires Inv-loop μ-loop
 splice-step-requires c κs =
-    let h = c .before .before .before .before .before .pre in
-    (record { value = splice-of (h .value); has = c .before .before .before .loop .inv .1 (h .value) (h .has) }, c .before .if1 .taken)
+    let h = entry (turn c) .pre in
+    (record { value = splice-of (h .value); has = on-the-way (turn c) (h .value) (h .has) }, c .before .if1 .taken)
 
 loop-less : tie.Need-loop-less Inv-loop μ-loop
 loop-less c =
-    let h = c .before .before .before .before .before .before .before .before .pre in
-    c .before .before .splice-step .ensures (splice-of (h .value)) (c .before .before .before .before .before .before .loop .inv .1 (h .value) (h .has)) .1
+    let step = stepped c in
+    let at-head = turn (step .before) in
+    let h = entry at-head .pre in
+    step .splice-step .ensures (splice-of (h .value)) (on-the-way at-head (h .value) (h .has)) .1
 
 loop-again : tie.Need-loop-again Inv-loop μ-loop
-loop-again c = (search needs, λ g h. c .before .before .splice-step .ensures (splice-of g) (c .before .before .before .before .before .before .loop .inv .1 g h) .0)
+loop-again c =
+    let step = stepped c in
+    (search needs, λ g h. step .splice-step .ensures (splice-of g) (on-the-way (turn (step .before)) g h) .0)
 
 same-length : tie.Need-same-length Inv-loop μ-loop
 same-length c = search needs
 
 returns : tie.Need-returns Inv-loop μ-loop
-returns c = λ g h. splicing-ends g _ _ (c .before .before .loop .inv .1 g h) (c .if1 .left)
+returns c = λ g h. splicing-ends g _ _ (on-the-way (c .before .before) g h) (c .if1 .left)
 
 pub splice-spec : {M : Type 1} → statement M
 splice-spec =

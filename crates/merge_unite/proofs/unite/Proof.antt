@@ -1,4 +1,4 @@
--- `merge_unite::unite` meets its contract. The loop's invariant: the two chains are on the way to be united, at m.
+-- `merge_unite::unite`: the loop keeps that, whatever two chains of ranges the table held, it is on the way to unite them, and each turn leaves less to see.
 use mathlib.Core.Path.{_≡_, refl}
 use lib.ListN.{length}
 use borrow.Author.Needs.{needs}
@@ -14,28 +14,46 @@ Inv-loop e₀ upper lower m₀ e m = (length e ≡ length e₀) × ((g : Chains)
 abbrev μ-loop : tie.MeasureT-loop
 μ-loop e₀ upper lower m₀ e m = to-see e m
 
+-- Where the code stands: at its entry, at the loop's head, and with the step taken.
+abbrev entry : tie.At-loop Inv-loop μ-loop → tie.Start Inv-loop μ-loop
+entry c = c .before .before
+
+abbrev turn : tie.After-unite-step-arg Inv-loop μ-loop → tie.At-loop Inv-loop μ-loop
+turn c = c .before .before .before
+
+abbrev stepped : tie.After-slice-known2 Inv-loop μ-loop → tie.After-unite-step Inv-loop μ-loop
+stepped c = c .before .before
+
+-- Every two chains that the table held at the entry are on the way to be united.
+on-the-way : (c : tie.At-loop Inv-loop μ-loop) (g : Chains) → RangesHeld g (entry c .args .e .now) (entry c .args .upper) (entry c .args .lower)
+    → Uniting g (c .loop .e) (c .loop .m)
+on-the-way c = c .loop .inv .1
+
 loop-holds : tie.Need-loop-holds Inv-loop μ-loop
 loop-holds c = (refl, λ g h. uniting-begins g _ _ _ h)
 
 unite-step-requires : tie.Need-unite-step-requires Inv-loop μ-loop
 unite-step-requires c κs =
-    let h = c .before .before .before .before .before .pre in
-    (record { value = _; has = c .before .before .before .loop .inv .1 (h .value) (h .has) }, c .before .if1 .taken)
+    let h = entry (turn c) .pre in
+    (record { value = _; has = on-the-way (turn c) (h .value) (h .has) }, c .before .if1 .taken)
 
 loop-less : tie.Need-loop-less Inv-loop μ-loop
 loop-less c =
-    let loop = c .before .before .before .before .before .before in
-    let h = loop .before .before .pre in
-    c .before .before .unite-step .ensures _ (loop .loop .inv .1 (h .value) (h .has)) .1
+    let step = stepped c in
+    let at-head = turn (step .before) in
+    let h = entry at-head .pre in
+    step .unite-step .ensures _ (on-the-way at-head (h .value) (h .has)) .1
 
 loop-again : tie.Need-loop-again Inv-loop μ-loop
-loop-again c = (search needs, λ g h. c .before .before .unite-step .ensures _ (c .before .before .before .before .before .before .loop .inv .1 g h) .0)
+loop-again c =
+    let step = stepped c in
+    (search needs, λ g h. step .unite-step .ensures _ (on-the-way (turn (step .before)) g h) .0)
 
 same-length : tie.Need-same-length Inv-loop μ-loop
 same-length c = search needs
 
 returns : tie.Need-returns Inv-loop μ-loop
-returns c = λ g h. uniting-ends g _ _ (c .before .if1 .left) (c .before .before .before .loop .inv .1 g h)
+returns c = λ g h. uniting-ends g _ _ (c .before .if1 .left) (on-the-way (c .before .before .before) g h)
 
 pub unite-spec : {M : Type 1} → statement M
 unite-spec =

@@ -1,4 +1,4 @@
--- `run_script::serve` meets its contract: it ends, and the room stays.
+-- `run_script::serve`: the loop keeps the room of every table and the state between two blocks, and each turn uses up one of its turns.
 use mathlib.Core.Path.{_≡_, refl}
 use borrow.Author.Needs.{needs}
 use lib.ListN.{length}
@@ -8,17 +8,31 @@ use Rattle.run_script.proofs.serve.Tie as tie
 
 abbrev Inv-loop : tie.InvT-loop
 Inv-loop entries₀ levels₀ line₀ input₀ output₀ m₀ turns₀ entries levels line input output m turns =
-    ((length entries ≡ length entries₀) × (length levels ≡ length levels₀) × (length line ≡ length line₀) × (length input ≡ length input₀) × (length output ≡ length output₀))
+    ((length entries ≡ length entries₀) × (length levels ≡ length levels₀) × (length line ≡ length line₀)
+    × (length input ≡ length input₀) × (length output ≡ length output₀))
     × Serving entries levels line input output m
 
 abbrev μ-loop : tie.MeasureT-loop
 μ-loop entries₀ levels₀ line₀ input₀ output₀ m₀ turns₀ entries levels line input output m turns = turns
 
+-- Where the code stands: at its entry; in the loop, before a block is served; once it is; and at the end of the turn.
+abbrev entry : tie.After-slice-known5 Inv-loop μ-loop → tie.Start Inv-loop μ-loop
+entry c = c .before .before .before .before .before
+
+abbrev turn : tie.After-serve-block-arg5 Inv-loop μ-loop → tie.Then1 Inv-loop μ-loop
+turn c = c .before .before .before .before .before
+
+abbrev served : tie.After-line Inv-loop μ-loop → tie.After-serve-block Inv-loop μ-loop
+served c = c .before .before .before .before .before
+
+abbrev turned : tie.After-slice-known10 Inv-loop μ-loop → tie.After-line Inv-loop μ-loop
+turned c = c .before .before .before .before .before
+
 loop-holds : tie.Need-loop-holds Inv-loop μ-loop
-loop-holds c = ((refl, refl, refl, refl, refl), c .before .before .before .before .before .pre)
+loop-holds c = ((refl, refl, refl, refl, refl), entry c .pre)
 
 serve-block-requires : tie.Need-serve-block-requires Inv-loop μ-loop
-serve-block-requires c κs = c .before .before .before .before .before .before .before .loop .inv .1
+serve-block-requires c κs = turn c .before .before .loop .inv .1
 
 sub-turns : tie.Need-sub-turns Inv-loop μ-loop
 sub-turns c = search needs
@@ -27,7 +41,7 @@ loop-less : tie.Need-loop-less Inv-loop μ-loop
 loop-less c = search needs
 
 loop-again : tie.Need-loop-again Inv-loop μ-loop
-loop-again c = ((search needs, search needs, search needs, search needs, search needs), c .before .before .before .before .before .before .before .before .before .before .serve-block .ensures)
+loop-again c = ((search needs, search needs, search needs, search needs, search needs), served (turned c) .serve-block .ensures)
 
 same-length : tie.Need-same-length Inv-loop μ-loop
 same-length c = search needs

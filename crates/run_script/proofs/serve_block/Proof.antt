@@ -1,9 +1,37 @@
--- `run_script::serve_block` meets its contract.
+-- `run_script::serve_block`: reading, feeding or finishing, and writing out each leave the room and the state that the next one asks for.
 use mathlib.Core.Path.{_∙_}
 use Rattle.run_script.proofs.Serves.{serves-on}
 use borrow.Author.Needs.{needs}
 use Rattle.run_script.proofs.serve_block.Statement.{statement}
 use Rattle.run_script.proofs.serve_block.Tie as tie
+
+-- Where the code stands: at its entry; once a block is read; with the read done when it is finished or fed; and with what waits written out.
+abbrev entry : tie.After-slice-known5 → tie.Start
+entry c = c .before .before .before .before .before
+
+abbrev read : tie.After-count → tie.After-read
+read c = c .before .before .before .before
+
+abbrev ended : tie.After-finish → tie.Then1
+ended c = c .before .before .before .before .before
+
+abbrev finished : tie.After-levels → tie.After-finish
+finished c = c .before .before .before
+
+abbrev last : tie.After-write-out → tie.After-levels
+last c = c .before .before .before .before .before
+
+abbrev more : tie.After-feed-arg4 → tie.Else1
+more c = c .before .before .before .before
+
+abbrev fed : tie.After-levels2 → tie.After-feed
+fed c = c .before .before .before
+
+abbrev told : tie.After-slice-known13 → tie.After-levels2
+told c = c .before .before .before .before .before
+
+abbrev next : tie.After-write-out2 → tie.After-slice-known13
+next c = c .before .before
 
 read-requires : tie.Need-read-requires
 read-requires c κs = search needs
@@ -34,10 +62,13 @@ same-length-5 c = search needs
 
 returns : tie.Need-returns
 returns c =
-    let s = c .before .before .before .before .before .before .before .before .before .before .before .before .before .before .before .before .before .before .before .before .before .before .before .before .before in
-    let f = c .before .before .before .before .before .before .before .before .finish in
-    let r = c .before .before .before .before .before .before .before .before .before .before .before .before .before .before .before .before .before .before .read in
-    serves-on (f .last .0) (f .last .1 .0) (s .args .line .now) (r .last .1 .0) (f .last .1 .1 .1 .0) (f .result) (c .write-out .result) (f .ensures .1 .0) (c .write-out .ensures) (r .kept .1 .0 ∙ s .pre .input-room) (f .kept .1 .1 .1 .0 ∙ s .pre .output-room)
+    let done = finished (last c) in
+    let f = done .finish in
+    let got = read (ended done .before) in
+    let r = got .read in
+    let s = entry (got .before .before) in
+    serves-on (f .last .0) (f .last .1 .0) (s .args .line .now) (r .last .1 .0) (f .last .1 .1 .1 .0) (f .result) (c .write-out .result)
+    (f .ensures .1 .0) (c .write-out .ensures) (r .kept .1 .0 ∙ s .pre .input-room) (f .kept .1 .1 .1 .0 ∙ s .pre .output-room)
 
 slice-reshare-prefix-feed : tie.Need-slice-reshare-prefix-feed
 slice-reshare-prefix-feed c = search needs
@@ -68,10 +99,13 @@ same-length-10 c = search needs
 
 returns-2 : tie.Need-returns-2
 returns-2 c =
-    let s = c .before .before .before .before .before .before .before .before .before .before .before .before .before .before .before .before .before .before .before .before .before .before .before .before .before .before .before .before in
-    let f = c .before .before .before .before .before .before .before .before .before .before .feed in
-    let r = c .before .before .before .before .before .before .before .before .before .before .before .before .before .before .before .before .before .before .before .before .before .read in
-    serves-on (f .last .1 .0) (f .last .1 .1 .0) (f .last .1 .1 .1 .0) (r .last .1 .0) (f .last .1 .1 .1 .1 .0) (f .result) (c .write-out2 .result) (f .ensures .1 .0) (c .write-out2 .ensures) (r .kept .1 .0 ∙ s .pre .input-room) (f .kept .1 .1 .1 .1 .0 ∙ s .pre .output-room)
+    let done = fed (told (next c)) in
+    let f = done .feed in
+    let got = read (more (done .before .before) .before) in
+    let r = got .read in
+    let s = entry (got .before .before) in
+    serves-on (f .last .1 .0) (f .last .1 .1 .0) (f .last .1 .1 .1 .0) (r .last .1 .0) (f .last .1 .1 .1 .1 .0) (f .result) (c .write-out2 .result)
+    (f .ensures .1 .0) (c .write-out2 .ensures) (r .kept .1 .0 ∙ s .pre .input-room) (f .kept .1 .1 .1 .1 .0 ∙ s .pre .output-room)
 
 pub serve-block-spec : {M : Type 1} → statement M
 serve-block-spec =

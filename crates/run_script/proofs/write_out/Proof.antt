@@ -1,4 +1,4 @@
--- `run_script::write_out` meets its contract.
+-- `run_script::write_out`: what waits lies within the output, so it can be lent; the state that is handed on is the one that came.
 use mathlib.Core.Path.{sym}
 use lib.Seq.{length-take-le}
 use borrow.Author.Needs.{needs}

@@ -1,4 +1,4 @@
--- `scan::close` meets its contract.
+-- `scan::close`: the one test is whether the sweep has come to a live docket, which is then the next; else there is none.
 use borrow.Author.Tests.{eq-eqb, ne-eqb}
 use Rattle.scan.proofs.close.Statement.{statement}
 use Rattle.scan.proofs.close.Tie as tie

@@ -1,4 +1,4 @@
--- `scan::goes_on` meets its contract.
+-- `scan::goes_on`: the two tests, for a live docket and for a row, are those of the definition, in its order.
 use borrow.Author.Tests.{eq-eqb, ne-eqb}
 use Rattle.scan.proofs.goes_on.Statement.{statement}
 use Rattle.scan.proofs.goes_on.Tie as tie

@@ -1,4 +1,4 @@
--- `scan::next` meets its contract: what an advance of the sweep leaves is what was still to come.
+-- `scan::next`: what an advance of the sweep leaves to come is what was still to come after the docket at which it stood.
 use borrow.Author.Needs.{needs}
 use Rattle.tables.specs.Words.{Fits32}
 use Rattle.scan_sweep.proofs.Arriving.{advanced-sweeping, advanced-rows}

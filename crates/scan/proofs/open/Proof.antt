@@ -1,4 +1,4 @@
--- `scan::open` meets its contract: tables of which no scan is refused are readable.
+-- `scan::open`: tables of which no scan is refused are readable, so the sweep sets out; of others nothing is read.
 use mathlib.Core.Path.{sym, ap, _∙_}
 use borrow.Author.Needs.{needs}
 use Rattle.tables.specs.Words.{Fits32}

@@ -1,4 +1,4 @@
--- `scan_sweep::begin` meets its contract: the sweep sets out, and comes to the first live docket.
+-- `scan_sweep::begin`: the sweep that has set out searches, and so comes to the first live docket.
 use Rattle.scan_sweep.proofs.Opening.{opened-sweeping}
 use borrow.Author.Needs.{needs}
 use Rattle.scan_sweep.proofs.begin.Statement.{statement}

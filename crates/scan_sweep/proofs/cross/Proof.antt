@@ -1,13 +1,33 @@
--- `scan_sweep::cross` meets its contract: nothing is left, or the survey tells of the docket.
+-- `scan_sweep::cross`: past hi nothing is left; else the survey tells what covers the docket, and the sweep goes on by that.
 use mathlib.Core.Path.{_≡_, sym, subst}
+use Prim.Native.Nat.{_≤_}
 use lib.Dec.{ltb}
 use Rattle.scan_fences.specs.Fences.{View}
-use Rattle.scan_step.specs.Sweeps.{next-level, Sweeping, gone}
-use Rattle.scan_sweep.specs.Sweeps.{viewing, crossed}
+use Rattle.scan_step.specs.Sweeps.{next-key, next-level, Sweeping, gone}
+use Rattle.scan_sweep.specs.Sweeps.{viewing, view-of, crossed}
 use Rattle.scan_sweep.proofs.Crossing.{crossed-none, crossed-gone, viewing-sweeping}
 use borrow.Author.Needs.{needs}
 use Rattle.scan_sweep.proofs.cross.Statement.{statement}
 use Rattle.scan_sweep.proofs.cross.Tie as tie
+
+-- Where the code stands: at its entry, with the docket's key known, and where it is not past hi.
+abbrev entry : tie.After-key-of → tie.Start
+entry c = c .before .before
+
+abbrev keyed : tie.Else1 → tie.After-key-of
+keyed c = c .before .before
+
+abbrev within : tie.After-survey → tie.Else1
+within c = c .before .before .before
+
+not-past : (c : tie.Else1) → next-key (entry (keyed c) .args .m) ≤ entry (keyed c) .args .m .hi
+not-past c = rw (keyed c .key-of .ensures) at (c .if1 .left)
+
+-- The survey is that of the first record's docket.
+view-is : (c : tie.After-survey)
+    → _≡_ {A = View} (record { ranges = c .survey .last .1 .0; cover = c .survey .result })
+    (view-of (entry (keyed (within c)) .args .e .now) (entry (keyed (within c)) .args .m))
+view-is c = rw (keyed (within c) .key-of .ensures) at (c .survey .ensures)
 
 key-of-requires : tie.Need-key-of-requires
 key-of-requires c κs = search needs
@@ -18,7 +38,7 @@ none-requires c κs = search needs
 returns : tie.Need-returns
 returns c =
     let k = c .before .before .before in
-    let a = k .before .before .args in
+    let a = entry k .args in
     rw (c .none .ensures) (sym (crossed-none (a .e .now) (a .m) (rw (k .key-of .ensures) at (c .before .if1 .taken))))
 
 slice-aggregate-survey : tie.Need-slice-aggregate-survey
@@ -32,27 +52,24 @@ level-of-requires c κs = search needs
 
 go-requires : tie.Need-go-requires
 go-requires c κs =
-    let v = c .before .before .before in
-    let b = v .before .before .before in
-    let k = b .before .before in
-    let a = k .before .before in
-    let le = rw (k .key-of .ensures) at (b .if1 .left) in (
-      subst (λ (w : View). Sweeping (a .args .e .now) (viewing (a .args .m) w)) (sym (rw (k .key-of .ensures) at (v .survey .ensures)))
+    let surveyed = c .before .before .before in
+    let le = not-past (within surveyed) in
+    let k = keyed (within surveyed) in
+    let a = entry k in (
+      subst (λ (w : View). Sweeping (a .args .e .now) (viewing (a .args .m) w)) (sym (view-is surveyed))
           (viewing-sweeping (λ i. k .before .shared-slice-known .given i .fits) (a .pre) le),
       le,
     )
 
 returns-2 : tie.Need-returns-2
 returns-2 c =
-    let o = c .before .before in
-    let v = o .before .before in
-    let b = v .before .before .before in
-    let k = b .before .before in
-    let a = k .before .before .args in
-    rw (c .go .ensures, o .level-of .ensures)
+    let levelled = c .before .before in
+    let surveyed = levelled .before .before in
+    let a = entry (keyed (within surveyed)) .args in
+    rw (c .go .ensures, levelled .level-of .ensures)
     (subst (λ (w : View). gone (a .e .now) (viewing (a .m) w) (ltb (w .cover .level) (next-level (a .m))) ≡ crossed (a .e .now) (a .m))
-    (sym (rw (k .key-of .ensures) at (v .survey .ensures)))
-    (sym (crossed-gone (a .e .now) (a .m) (rw (k .key-of .ensures) at (b .if1 .left)))))
+    (sym (view-is surveyed))
+    (sym (crossed-gone (a .e .now) (a .m) (not-past (within surveyed)))))
 
 pub cross-spec : {M : Type 1} → statement M
 cross-spec =

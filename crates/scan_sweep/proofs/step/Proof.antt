@@ -1,4 +1,4 @@
--- `scan_sweep::step` meets its contract: past the fence or before it.
+-- `scan_sweep::step`: a docket past the fence is crossed, and one before it needs no survey.
 use mathlib.Core.Path.{sym}
 use Rattle.scan_sweep.proofs.Crossing.{step-crosses, step-near}
 use borrow.Author.Needs.{needs}

@@ -1,4 +1,4 @@
--- `script_fields::is_digit` meets its contract.
+-- `script_fields::is_digit`: past the text no digit stands; within it, the two tests of the byte are the two of the definition.
 use mathlib.Core.Path.{sym}
 use borrow.Author.Needs.{needs}
 use borrow.Author.Tests.{le-leb, lt-leb}

@@ -1,4 +1,4 @@
--- `script_fields::read_field` meets its contract.
+-- `script_fields::read_field`: past the text and at a byte other than a blank no field stands; after a blank it is the number there.
 use mathlib.Core.Path.{sym, _∙_}
 use borrow.Author.Needs.{needs}
 use Rattle.script_fields.proofs.Blanks.{no-field, no-blank, blank}

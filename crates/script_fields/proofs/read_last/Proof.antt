@@ -1,4 +1,4 @@
--- `script_fields::read_last` meets its contract.
+-- `script_fields::read_last`: the field there is the last one where it ends with the text, and there is none where bytes follow.
 use borrow.Author.Needs.{needs}
 use borrow.Author.Tests.{lt-ltb, le-ltb}
 use Rattle.script_fields.proofs.read_last.Statement.{statement}

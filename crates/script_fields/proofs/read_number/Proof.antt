@@ -1,10 +1,10 @@
--- `script_fields::read_number` meets its contract. The loop's invariant: of the value so far, the digits that are left make the whole number.
+-- `script_fields::read_number`: the loop keeps that the value so far and the digits that are left make the whole number, and end where it ends.
 use mathlib.Core.Path.{sym}
 use Prim.Native.Nat.{_-_}
 use native.Mathlib.Omega.{arith}
 use borrow.Author.Needs.{needs}
 use lib.ListN.{length}
-use Rattle.script_fields.proofs.Reading.{Read, digit, read-none, eleventh, grows-too-large, read-one, read-nothing, read-all}
+use Rattle.script_fields.proofs.Reading.{Read, Digit, digit, read-none, eleventh, grows-too-large, read-one, read-nothing, read-all}
 use Rattle.script_fields.proofs.read_number.Statement.{statement}
 use Rattle.script_fields.proofs.read_number.Tie as tie
 
@@ -20,74 +20,63 @@ loop-holds c = read-none _ _
 is-digit-requires : tie.Need-is-digit-requires Inv-loop μ-loop
 is-digit-requires c κs = search needs
 
+-- Where the code stands: at the loop's head.
+abbrev head : tie.Then1 Inv-loop μ-loop → tie.At-loop Inv-loop μ-loop
+head c = c .before .before
+
+-- A digit stands at the position, wherever the loop goes on.
+digit-here : (c : tie.Then1 Inv-loop μ-loop) → Digit (head c .before .before .args .text .now) (head c .loop .at)
+digit-here c = digit _ _ (c .before .is-digit .ensures) (c .if1 .taken)
+
 sub-if2 : tie.Need-sub-if2 Inv-loop μ-loop
 sub-if2 c = c .before .before .loop .inv .onward
 
 returns : tie.Need-returns Inv-loop μ-loop
-returns c =
-    let b = c .before .before in
-    sym (eleventh _ _ _ _ (b .before .loop .inv) (digit _ _ (b .is-digit .ensures) (c .before .if1 .taken)) (omega arith))
+returns c = sym (eleventh _ _ _ _ (head (c .before) .loop .inv) (digit-here (c .before)) (omega arith))
 
 mul-value : tie.Need-mul-value Inv-loop μ-loop
-mul-value c = omega (arith, c .before .before .before .loop .inv .small)
+mul-value c = omega (arith, head (c .before) .loop .inv .small)
 
 shared-slice-read-value : tie.Need-shared-slice-read-value Inv-loop μ-loop
-shared-slice-read-value c =
-    let b = c .before .before in
-    digit _ _ (b .before .is-digit .ensures) (b .if1 .taken) .within
+shared-slice-read-value c = digit-here (c .before .before) .within
 
 sub-value : tie.Need-sub-value Inv-loop μ-loop
-sub-value c =
-    let b = c .before .before in
-    let d = digit (b .before .before .before .before .args .text .now) (b .before .before .loop .at) (b .before .is-digit .ensures) (b .if1 .taken) in
-    omega (arith, d .low)
+sub-value c = omega (arith, digit-here (c .before .before) .low)
 
 cast-value : tie.Need-cast-value Inv-loop μ-loop
-cast-value c =
-    let b = c .before .before in
-    let d = digit (b .before .before .before .before .args .text .now) (b .before .before .loop .at) (b .before .is-digit .ensures) (b .if1 .taken) in
-    omega (arith, d .high)
+cast-value c = omega (arith, digit-here (c .before .before) .high)
 
 add-value : tie.Need-add-value Inv-loop μ-loop
-add-value c =
-    let b = c .before .before in
-    let d = digit (b .before .before .before .before .args .text .now) (b .before .before .loop .at) (b .before .is-digit .ensures) (b .if1 .taken) in
-    omega (arith, d .high, b .before .before .loop .inv .small)
+add-value c = omega (arith, digit-here (c .before .before) .high, head (c .before .before) .loop .inv .small)
 
 returns-2 : tie.Need-returns-2 Inv-loop μ-loop
 returns-2 c =
-    let b = c .before .before .before in
-    sym (grows-too-large _ _ _ _ (b .before .before .loop .inv) (digit _ _ (b .before .is-digit .ensures) (b .if1 .taken)) (omega arith))
+    let go = c .before .before .before in
+    sym (grows-too-large _ _ _ _ (head go .loop .inv) (digit-here go) (omega arith))
 
 add-at : tie.Need-add-at Inv-loop μ-loop
-add-at c =
-    let b = c .before .before .before in
-    let d = digit (b .before .before .before .before .args .text .now) (b .before .before .loop .at) (b .before .is-digit .ensures) (b .if1 .taken) in
-    omega (arith, d .within)
+add-at c = omega (arith, digit-here (c .before .before .before) .within)
 
 loop-less : tie.Need-loop-less Inv-loop μ-loop
-loop-less c =
-    let b = c .before .before .before in
-    let d = digit (b .before .before .before .before .args .text .now) (b .before .before .loop .at) (b .before .is-digit .ensures) (b .if1 .taken) in
-    omega (arith, d .within)
+loop-less c = omega (arith, digit-here (c .before .before .before) .within)
 
 loop-again : tie.Need-loop-again Inv-loop μ-loop
 loop-again c =
-    let b = c .before .before .before in
-    read-one _ _ _ _ (b .before .before .loop .inv) (digit _ _ (b .before .is-digit .ensures) (b .if1 .taken)) (omega arith) (omega arith)
+    let go = c .before .before .before in
+    read-one _ _ _ _ (head go .loop .inv) (digit-here go) (omega arith) (omega arith)
 
 returns-3 : tie.Need-returns-3 Inv-loop μ-loop
 returns-3 c =
-    let b = c .before .before in
-    sym (read-nothing _ _ _ _ (b .before .loop .inv) (b .is-digit .ensures) (c .before .if1 .left) (c .if4 .taken))
+    let tested = c .before .before in
+    sym (read-nothing _ _ _ _ (tested .before .loop .inv) (tested .is-digit .ensures) (c .before .if1 .left) (c .if4 .taken))
 
 cast-t14 : tie.Need-cast-t14 Inv-loop μ-loop
 cast-t14 c = omega (arith, c .before .before .before .loop .inv .small)
 
 returns-4 : tie.Need-returns-4 Inv-loop μ-loop
 returns-4 c =
-    let b = c .before .before in
-    read-all _ _ _ _ (b .before .loop .inv) (b .is-digit .ensures) (c .before .if1 .left) (c .if4 .left)
+    let tested = c .before .before in
+    read-all _ _ _ _ (tested .before .loop .inv) (tested .is-digit .ensures) (c .before .if1 .left) (c .if4 .left)
 
 pub read-number-spec : {M : Type 1} → statement M
 read-number-spec =

@@ -1,10 +1,18 @@
--- `script_lines::read_flush` meets its contract.
-use mathlib.Core.Path.{sym}
+-- `script_lines::read_flush`: the line is its one number, which is the last.
+use mathlib.Core.List.{List}
+use Prim.Native.Nat.{ℕ}
 use borrow.Author.Needs.{needs}
 use Rattle.script_lines.specs.declared.Command.the-variants.{Flush}
-use Rattle.script_lines.proofs.Fields.{last, missing-last}
+use Rattle.script_lines.proofs.Fields.{Rest, none-read, all-read, no-last}
 use Rattle.script_lines.proofs.read_flush.Statement.{statement}
 use Rattle.script_lines.proofs.read_flush.Tie as tie
+
+-- What is left of the line at first.
+abbrev text : tie.After-read-last → List ℕ
+text c = c .before .before .args .text .now
+
+abbrev whole : (c : tie.After-read-last) → Rest 1 Flush (text c) 1
+whole c = none-read 1 Flush (text c)
 
 read-last-requires : tie.Need-read-last-requires
 read-last-requires c κs = search needs
@@ -16,15 +24,12 @@ enum-told : tie.Need-enum-told
 enum-told c = search needs
 
 returns : tie.Need-returns
-returns c =
-    let text = c .before .before .before .before .args .text .now in
-    sym (missing-last Flush text 1 (c .before .before .read-last .ensures) (c .enum-told .given .1))
+returns c = no-last (whole (c .before .before)) (c .before .before .read-last .ensures) (c .enum-told .given .1)
 
 returns-2 : tie.Need-returns-2
 returns-2 c =
-    let first = c .before in
-    let text = first .before .before .before .before .args .text .now in
-    sym (last Flush text 1 (first .before .before .read-last .ensures) (first .clock .given .1))
+    let read = c .before in
+    all-read (whole (read .before .before)) (read .before .before .read-last .ensures) (read .clock .given .1)
 
 pub read-flush-spec : {M : Type 1} → statement M
 read-flush-spec =

@@ -1,10 +1,28 @@
--- `script_lines::read_put` meets its contract.
-use mathlib.Core.Path.{sym, _∙_}
+-- `script_lines::read_put`: with each number read, those that are left make the same line.
+use mathlib.Core.List.{List}
+use Prim.Native.Nat.{ℕ}
 use borrow.Author.Needs.{needs}
 use Rattle.script_lines.specs.declared.Command.the-variants.{Put}
-use Rattle.script_lines.proofs.Fields.{next, missing, last, missing-last}
+use Rattle.script_lines.proofs.Fields.{Rest, none-read, one-read, none-there, all-read, no-last}
 use Rattle.script_lines.proofs.read_put.Statement.{statement}
 use Rattle.script_lines.proofs.read_put.Tie as tie
+
+-- Where the code stood when a number was read, seen from where the next one is.
+abbrev clock : tie.After-key → tie.After-clock
+clock c = c .before .before .before .before
+
+-- What is left of the line at first, once a number is read, and once another is.
+abbrev text : tie.After-read-field → List ℕ
+text c = c .before .before .args .text .now
+
+abbrev whole : (c : tie.After-read-field) → Rest 3 Put (text c) 3
+whole c = none-read 3 Put (text c)
+
+abbrev first : (c : tie.After-clock) → Rest 3 Put (text (c .before .before)) 2
+first c = one-read (whole (c .before .before)) (c .before .before .read-field .ensures) (c .clock .given .1)
+
+abbrev second : (c : tie.After-key) → Rest 3 Put (text (clock c .before .before)) 1
+second c = one-read (first (clock c)) (c .before .before .read-field2 .ensures) (c .key .given .1)
 
 read-field-requires : tie.Need-read-field-requires
 read-field-requires c κs = search needs
@@ -16,9 +34,7 @@ enum-told : tie.Need-enum-told
 enum-told c = search needs
 
 returns : tie.Need-returns
-returns c =
-    let text = c .before .before .before .before .args .text .now in
-    sym (missing 2 Put text 1 (c .before .before .read-field .ensures) (c .enum-told .given .1))
+returns c = none-there (whole (c .before .before)) (c .before .before .read-field .ensures) (c .enum-told .given .1)
 
 read-field-requires-2 : tie.Need-read-field-requires-2
 read-field-requires-2 c κs = search needs
@@ -30,12 +46,7 @@ enum-told-2 : tie.Need-enum-told-2
 enum-told-2 c = search needs
 
 returns-2 : tie.Need-returns-2
-returns-2 c =
-    let first = c .before .before .before .before in
-    let text = first .before .before .before .before .args .text .now in
-    sym
-    (next 2 Put text 1 (first .before .before .read-field .ensures) (first .clock .given .1)
-    ∙ missing 1 (Put _) text _ (c .before .before .read-field2 .ensures) (c .enum-told2 .given .1))
+returns-2 c = none-there (first (c .before .before .before .before)) (c .before .before .read-field2 .ensures) (c .enum-told2 .given .1)
 
 read-last-requires : tie.Need-read-last-requires
 read-last-requires c κs = search needs
@@ -47,25 +58,12 @@ enum-told-3 : tie.Need-enum-told-3
 enum-told-3 c = search needs
 
 returns-3 : tie.Need-returns-3
-returns-3 c =
-    let second = c .before .before .before .before in
-    let first = second .before .before .before .before in
-    let text = first .before .before .before .before .args .text .now in
-    sym
-    (next 2 Put text 1 (first .before .before .read-field .ensures) (first .clock .given .1)
-    ∙ next 1 (Put _) text _ (second .before .before .read-field2 .ensures) (second .key .given .1)
-    ∙ missing-last (Put _ _) text _ (c .before .before .read-last .ensures) (c .enum-told3 .given .1))
+returns-3 c = no-last (second (c .before .before .before .before)) (c .before .before .read-last .ensures) (c .enum-told3 .given .1)
 
 returns-4 : tie.Need-returns-4
 returns-4 c =
-    let third = c .before in
-    let second = third .before .before .before .before in
-    let first = second .before .before .before .before in
-    let text = first .before .before .before .before .args .text .now in
-    sym
-    (next 2 Put text 1 (first .before .before .read-field .ensures) (first .clock .given .1)
-    ∙ next 1 (Put _) text _ (second .before .before .read-field2 .ensures) (second .key .given .1)
-    ∙ last (Put _ _) text _ (third .before .before .read-last .ensures) (third .value .given .1))
+    let read = c .before in
+    all-read (second (read .before .before .before .before)) (read .before .before .read-last .ensures) (read .value .given .1)
 
 pub read-put-spec : {M : Type 1} → statement M
 read-put-spec =

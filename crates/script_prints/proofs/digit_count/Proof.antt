@@ -1,4 +1,4 @@
--- `script_prints::digit_count` meets its contract. The loop's invariant: the digits counted, and those of the rest before its last, are the digits of the number.
+-- `script_prints::digit_count`: the loop keeps that the digits counted, and those of the rest before its last, are those of the number.
 use native.Mathlib.Omega.{arith}
 use Rattle.script_prints.proofs.Loops.{Counting, count-first, count-more, count-all}
 use Rattle.script_prints.proofs.digit_count.Statement.{statement}

@@ -1,4 +1,4 @@
--- `script_prints::print_digits` meets its contract. The loop's invariant: with the digits of the rest before the position, the text is whole.
+-- `script_prints::print_digits`: the loop keeps that with the digits of the rest printed before the position, the text is whole.
 use native.Mathlib.Omega.{arith}
 use Rattle.script_prints.proofs.Loops.{Printing, print-none, print-one, print-all}
 use Rattle.script_prints.proofs.print_digits.Statement.{statement}

@@ -1,4 +1,4 @@
--- `script_prints::print_numbers` meets its contract: three fields, each after the one before.
+-- `script_prints::print_numbers`: three fields, each printed where the one before it ends, are the line.
 use mathlib.Core.List.{_++_}
 use native.Mathlib.Omega.{arith}
 use borrow.Author.Needs.{needs}
@@ -8,17 +8,30 @@ use Rattle.script_prints.proofs.Overwrites.{printed-append}
 use Rattle.script_prints.proofs.print_numbers.Statement.{statement}
 use Rattle.script_prints.proofs.print_numbers.Tie as tie
 
+-- Where the code stands: at its entry, and once the first, the second and the third field is printed.
+abbrev entry : tie.After-print-field → tie.Start
+entry c = c .before .before .before
+
+abbrev first : tie.After-print-field2 → tie.After-print-field
+first c = c .before .before .before .before
+
+abbrev second : tie.After-print-field3 → tie.After-print-field2
+second c = c .before .before .before .before
+
+abbrev third : tie.After-slice-known4 → tie.After-print-field3
+third c = c .before .before
+
 print-field-requires : tie.Need-print-field-requires
 print-field-requires c κs = search needs
 
 print-field-requires-2 : tie.Need-print-field-requires-2
 print-field-requires-2 c κs =
-    let a = c .before .before .before .before .before .before .args in
+    let a = entry (c .before .before .before) .args in
     omega (arith, length-field (a .first) 32)
 
 print-field-requires-3 : tie.Need-print-field-requires-3
 print-field-requires-3 c κs =
-    let a = c .before .before .before .before .before .before .before .before .before .before .args in
+    let a = entry (first (c .before .before .before)) .args in
     omega (arith, length-field (a .first) 32, length-field (a .second) 32)
 
 same-length : tie.Need-same-length
@@ -27,14 +40,16 @@ same-length c = search needs
 returns : tie.Need-returns
 unfolding numbers-text
 returns c =
-    let b = c .before .before .before .before .before .before in
-    let d = b .before .before .before .before in
-    let a = d .before .before .before .args in
+    let three = third c in
+    let two = second three in
+    let one = first two in
+    let a = entry one .args in
     let few = length-field (a .first) 32 in
     let few-more = length-field (a .second) 32 in
     printed-append _ _ _ _ _ _ (field-text (a .first) 32) (field-text (a .second) 32 ++ field-text (a .third) 10) (omega arith)
-    (d .print-field .ensures)
-    (printed-append _ _ _ _ _ _ (field-text (a .second) 32) (field-text (a .third) 10) (omega arith) (b .print-field2 .ensures) (c .before .before .print-field3 .ensures))
+    (one .print-field .ensures)
+    (printed-append _ _ _ _ _ _ (field-text (a .second) 32) (field-text (a .third) 10) (omega arith)
+    (two .print-field2 .ensures) (three .print-field3 .ensures))
 
 pub print-numbers-spec : {M : Type 1} → statement M
 print-numbers-spec =

@@ -1,4 +1,4 @@
--- `script_stream::feed` meets its contract. The loop's invariant: the bytes that are left lead from where the script stands to where the block leads.
+-- `script_stream::feed`: the loop keeps that the bytes that are left lead from where the script stands to where the block leads.
 use mathlib.Core.Path.{_≡_, refl}
 use Prim.Native.Nat.{_-_}
 use native.Mathlib.Omega.{arith}
@@ -18,36 +18,52 @@ Inv-loop block entries₀ levels₀ line₀ output₀ m₀ i₀ entries levels l
 abbrev μ-loop : tie.MeasureT-loop
 μ-loop block entries₀ levels₀ line₀ output₀ m₀ i₀ entries levels line output m i = length block - i
 
+-- Where the code stands: at its entry, in the loop with a byte left, with the byte taken, and at the end of the turn.
+abbrev entry : tie.After-slice-known4 Inv-loop μ-loop → tie.Start Inv-loop μ-loop
+entry c = c .before .before .before .before .before
+
+abbrev turn : tie.After-take-byte-arg4 Inv-loop μ-loop → tie.In-loop Inv-loop μ-loop
+turn c = c .before .before .before .before .before
+
+abbrev took : tie.After-slice-known6 Inv-loop μ-loop → tie.After-take-byte Inv-loop μ-loop
+took c = c .before .before .before .before
+
+abbrev turned : tie.After-slice-known8 Inv-loop μ-loop → tie.After-slice-known6 Inv-loop μ-loop
+turned c = c .before .before .before .before
+
 loop-holds : tie.Need-loop-holds Inv-loop μ-loop
-loop-holds c = ((refl, refl, refl), record { ready = c .before .before .before .before .before .pre .0; same-room = refl; few = omega arith; within = omega arith; leads = refl })
+loop-holds c =
+    ((refl, refl, refl), record { ready = entry c .pre .0; same-room = refl; few = omega arith; within = omega arith; leads = refl })
 
 shared-slice-read-take-byte : tie.Need-shared-slice-read-take-byte Inv-loop μ-loop
 shared-slice-read-take-byte c = search needs
 
 take-byte-requires : tie.Need-take-byte-requires Inv-loop μ-loop
 take-byte-requires c κs =
-    let s = c .before .before .before .before .before .before .before .before .before .before .before .before in
-    let between = c .before .before .before .before .before .before .loop .inv .1 in
-    (between .ready, omega (arith, s .pre .1, between .few, c .before .before .before .before .before .loop-test .taken, between .same-room))
+    let in-turn = turn c in
+    let at-head = in-turn .before in
+    let between = at-head .loop .inv .1 in
+    (between .ready, omega (arith, entry (at-head .before) .pre .1, between .few, in-turn .loop-test .taken, between .same-room))
 
 add-i : tie.Need-add-i Inv-loop μ-loop
-add-i c = omega (arith, c .before .before .before .before .before .before .before .before .before .before .before .before .before .before .loop-test .taken)
+add-i c = omega (arith, turn (took (turned c) .before) .loop-test .taken)
 
 loop-less : tie.Need-loop-less Inv-loop μ-loop
 loop-less c = search needs
 
 loop-again : tie.Need-loop-again Inv-loop μ-loop
 loop-again c =
-    let m = c .before .before .before .before .before .before .before .before .before .before .before .before .before .before .before .loop in
-    let t = c .before .before .before .before .before .before .before .before .take-byte in
-    let taken = c .before .before .before .before .before .before .before .before .before .before .before .before .before .before .loop-test .taken in (
+    let t = took (turned c) .take-byte in
+    let in-turn = turn (took (turned c) .before) in
+    let within = in-turn .loop-test .taken in
+    let m = in-turn .before .loop in (
       (search needs, search needs, search needs),
       record {
         ready = t .ensures .1 .0;
         same-room = search needs;
         few = omega (arith, t .ensures .1 .1, m .inv .1 .few);
-        within = omega (arith, taken);
-        leads = feeds-one _ (m .i) (standing (m .entries) (m .levels) (m .line) (m .output) (m .m)) _ _ taken (m .inv .1 .leads) (t .ensures .0);
+        within = omega (arith, within);
+        leads = feeds-one _ (m .i) (standing (m .entries) (m .levels) (m .line) (m .output) (m .m)) _ _ within (m .inv .1 .leads) (t .ensures .0);
       },
     )
 
@@ -66,8 +82,10 @@ same-length-4 c = search needs
 returns : tie.Need-returns Inv-loop μ-loop
 returns c =
     let m = c .before .loop in
-    let past = c .loop-test .left in
-    (feeds-all _ (m .i) _ _ (omega (arith, past)) (m .inv .1 .leads), (m .inv .1 .ready, omega (arith, m .inv .1 .few, m .inv .1 .within, past)))
+    let past = c .loop-test .left in (
+      feeds-all _ (m .i) _ _ (omega (arith, past)) (m .inv .1 .leads),
+      (m .inv .1 .ready, omega (arith, m .inv .1 .few, m .inv .1 .within, past)),
+    )
 
 pub feed-spec : {M : Type 1} → statement M
 feed-spec =

@@ -1,4 +1,4 @@
--- `settings::in_range` meets its contract: each test of the code is a test of `within`.
+-- `settings::in_range`: each test of the code is a test of `within`.
 use borrow.Author.Tests.{le-leb, lt-leb}
 use Rattle.settings.proofs.in_range.Statement.{statement}
 use Rattle.settings.proofs.in_range.Tie as tie

@@ -1,4 +1,4 @@
--- `settings::Settings::capacity` meets its contract: its one test is `inner`.
+-- `settings::Settings::capacity`: the one test is `inner`, and an inner level's capacity is the one that `inner_capacity` computes.
 use mathlib.Core.Path.{sym, ap, _∙_}
 use borrow.Author.Needs.{needs}
 use Rattle.settings.specs.declared.Bound.the-variants.{Is}

@@ -1,4 +1,4 @@
--- `settings::Settings::inner_capacity` meets its contract; the capacity of an inner level fits.
+-- `settings::Settings::inner_capacity`: the buffer times a power of the ratio, which fits for an inner level of allowed settings.
 use mathlib.Core.Path.{ap}
 use Prim.Native.Nat.{_*_}
 use native.Mathlib.Omega.{arith}

@@ -1,4 +1,4 @@
--- `settings::Settings::is_inner` meets its contract; once the settings are allowed, L is at least 2.
+-- `settings::Settings::is_inner`: of allowed settings L is at least 2, so the last inner level can be computed and compared with.
 use native.Mathlib.Omega.{arith}
 use borrow.Author.Needs.{needs}
 use Rattle.lists.proofs.Branches.{fails, holds}

@@ -1,4 +1,4 @@
--- `settings::Settings::limit` meets its contract: its one test is `inner`.
+-- `settings::Settings::limit`: the one test is `inner`, and an inner level's limit is the one that `inner_limit` computes.
 use mathlib.Core.Path.{sym, ap, _∙_}
 use borrow.Author.Needs.{needs}
 use Rattle.settings.specs.declared.Bound.the-variants.{Is}

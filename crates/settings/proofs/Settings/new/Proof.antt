@@ -1,4 +1,4 @@
--- `settings::Settings::new` meets its contract: its one test is `allowed`.
+-- `settings::Settings::new`: the one test is `allowed`, and what it passes is answered as it came.
 use mathlib.Core.Path.{sym}
 use borrow.Author.Needs.{needs}
 use Rattle.lists.proofs.Branches.{fails, holds}

@@ -1,4 +1,4 @@
--- `settings::Settings::power` meets its contract. The invariant: after k turns the product is T^k.
+-- `settings::Settings::power`: the loop keeps that after k turns the product is T^k, which fits while k is at most the level.
 use mathlib.Core.Path.{_≡_, sym, ap, _∙_}
 use Prim.Native.Nat.{ℕ, _+_, _-_, _*_, _≤_}
 use native.Mathlib.Nat.{le-antisymm}
@@ -30,8 +30,9 @@ loop-again c =
 
 mul-p : tie.Need-mul-p Inv-loop μ-loop
 mul-p c =
-    let s = c .before .before .before .args .self in
-    let n = inner-bounds s (c .before .before .before .args .i) (c .before .before .before .pre) in
+    let start = c .before .before .before in
+    let s = start .args .self in
+    let n = inner-bounds s (start .args .i) (start .pre) in
     let k = c .before .before .loop .k in
     omega (arith, loop-again c .1, power-fits s (n .settings) (k + 1) (omega arith))
 
