@@ -1,12 +1,13 @@
 /* Guontrem: tallies by docket, in two tables of 32-bit words that the caller lends.
 
    Every function of the library is proved: on tables of any content, and with any numbers, it ends without fault, answers as said
-   here and writes no word but those said here. docs/FORMAT.md has both tables word by word.
+   here and writes no word but those said here. What this header adds as inline functions, parts of an answer, readers and wrappers, is
+   plain C and tested. docs/FORMAT.md has both tables word by word.
 
    What a caller must see to:
    - A table is a pointer and a count of words. The pointer is not null, also where the count is 0, and is aligned to 4 bytes.
    - The entry table, the level table and the rows of a scan do not overlap.
-   - No other call writes the tables meanwhile. Calls that only read (check, lookup, scan) may run at the same time.
+   - No other call writes the tables meanwhile. Calls that only read (check, lookup, scan, the readers) may run at the same time.
    A call allocates nothing, keeps nothing between calls and needs about 9 KiB of stack; of the C library it needs memset.
 
    The plain functions take both tables with their lengths. From "A store as one struct" on, the same calls take a struct that has them:
@@ -162,8 +163,8 @@ static inline int guontrem_scan_more(uint64_t answer) { return (int)(answer >> 4
 /* With more, the first live docket that has no row, from which another scan goes on; without, 0. */
 static inline uint32_t guontrem_scan_next(uint64_t answer) { return (uint32_t)(answer >> 32 & 0xffff); }
 
-/* What the tables say of themselves, read without a check. It holds for tables that pass guontrem_check; of others it is what happens to
-   stand in their words. Words that a table is too short to have are read as 0. */
+/* The readers: what the tables say of themselves, without a check. It is true of tables that pass guontrem_check. Of others it is
+   whatever stands in their words, and 0 where a table is too short to have them. */
 
 /* The clock of the last accepted timed call; 0 in a fresh store. */
 static inline uint32_t guontrem_read_clock(const uint32_t *entries, size_t entry_words) { return 2 <= entry_words ? entries[1] : 0; }
@@ -188,7 +189,7 @@ static inline struct guontrem_settings guontrem_read_settings(const uint32_t *le
     return settings;
 }
 
-/* All parts of an answer at once. */
+/* All parts of an answer at once, each as its function above gives it. */
 struct guontrem_timed_answer {
     uint32_t refusal, merges, purged;
 };
@@ -222,9 +223,9 @@ static inline struct guontrem_scan_answer guontrem_scan_parts(uint64_t answer) {
     return parts;
 }
 
-/* A store as one struct: two lent tables and their lengths in words. For each function above, guontrem_store_... does the same to these
-   tables: what is said there of refusals, of the answer and of the tables holds here. The struct itself is never written; functions that
-   may write the tables take a pointer to it, those that only read them a pointer to const. */
+/* A store as one struct: two lent tables and their lengths in words. Each function above that takes tables has one here that takes the
+   struct, guontrem_store_put for guontrem_put and so on: what is said there of refusals, of the answer and of the tables holds here.
+   The struct itself is never written; functions that may write the tables take a pointer to it, those that only read a pointer to const. */
 struct guontrem_store {
     uint32_t *entries;
     size_t entry_words;

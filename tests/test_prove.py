@@ -24,6 +24,18 @@ exit 1
 '''
 
 
+def read_all(terminal):
+    """What a terminal was sent; once its other end is closed, reading past that is an error."""
+    shown = b""
+    with open(terminal, "rb", buffering=0) as file:
+        try:
+            while part := file.read(1 << 16):
+                shown += part
+        except OSError:
+            pass
+    return shown.decode()
+
+
 class Prove(unittest.TestCase):
     def setUp(self):
         self.place = pathlib.Path(tempfile.mkdtemp())
@@ -72,6 +84,12 @@ class Prove(unittest.TestCase):
         self.assertEqual(ran.returncode, 2)
         self.assertTrue(ran.stderr.startswith("FAILED: rt: crates.txt: top is not listed\n"))
 
+    def test_a_program_that_prints_something_else(self):
+        lines = ["below proved (3 s)", "below ran, and wrote what its file 'stdout' has (0 s)", "top: what the program wrote is not its file",
+                 "top proved, and its run FAILED (0 s)", "FAILED: top"]
+        ran = self.prove("".join(f'echo "rt: {line}"\n' for line in lines) + "exit 1\n", "top", capture_output=True)
+        self.assertIn("\nFAILED: rt: top: what the program wrote is not its file\n", ran.stderr)
+
     def test_no_rt(self):
         ran = self.prove(None, "top", capture_output=True)
         self.assertEqual((ran.returncode, ran.stderr.count("\n")), (2, 1))
@@ -82,8 +100,7 @@ class Prove(unittest.TestCase):
         reader, writer = pty.openpty()
         ran = self.prove(UNCHANGED.replace("; done", "; sleep 0.6; done"), "top", stderr=writer)
         os.close(writer)
-        with open(reader, errors="replace") as terminal:
-            shown = os.read(terminal.fileno(), 1 << 16).decode()
+        shown = read_all(reader)
         self.assertEqual(ran.returncode, 0)
         self.assertIn("1 of 3 crates proved, the last below, ", shown)
         self.assertIn("3 of 3 crates proved, the last top, ", shown)
