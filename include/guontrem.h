@@ -1,13 +1,23 @@
 /* Guontrem: tallies by docket, in two tables of 32-bit words that the caller lends.
 
    Every function of the library is proved: on tables of any content, and with any numbers, it ends without fault, answers as said
-   here and writes no word but those said here. docs/FORMAT.md has both tables word by word.
+   here and writes no word but those said here. What this header adds as inline functions, parts of an answer, readers and wrappers, is
+   plain C and tested. docs/FORMAT.md has both tables word by word.
 
    What a caller must see to:
    - A table is a pointer and a count of words. The pointer is not null, also where the count is 0, and is aligned to 4 bytes.
    - The entry table, the level table and the rows of a scan do not overlap.
-   - No other call writes the tables meanwhile. Calls that only read (check, lookup, scan) may run at the same time.
-   A call allocates nothing, keeps nothing between calls and needs about 9 KiB of stack; of the C library it needs memset. */
+   - No other call writes the tables meanwhile. Calls that only read (check, lookup, scan, the readers) may run at the same time.
+   A call allocates nothing, keeps nothing between calls and needs about 9 KiB of stack; of the C library it needs memset.
+
+   The plain functions take both tables with their lengths. From "A store as one struct" on, the same calls take a struct that has them:
+
+       static uint32_t entries[GUONTREM_ENTRY_WORDS(40)], levels[GUONTREM_LEVEL_WORDS(3)];
+       static struct guontrem_store store = GUONTREM_STORE(entries, levels);
+
+       struct guontrem_settings settings = {3, 2, 4, 60};
+       if (guontrem_store_make(&store, settings) != GUONTREM_ACCEPTED) ...
+       if (guontrem_store_put(&store, clock, docket, tally).refusal == GUONTREM_FULL) ... */
 #ifndef GUONTREM_H
 #define GUONTREM_H
 
@@ -17,6 +27,12 @@
 #ifdef __cplusplus
 extern "C" {
 #endif
+
+/* The version, for `#if 8 <= GUONTREM_VERSION`. MAJOR is 0 until the first release; MINOR grows by one with every change that a caller
+   can see: a name, an answer, a refusal or a word of the tables. */
+#define GUONTREM_VERSION_MAJOR 0
+#define GUONTREM_VERSION_MINOR 8
+#define GUONTREM_VERSION (1000 * GUONTREM_VERSION_MAJOR + GUONTREM_VERSION_MINOR)
 
 /* N, the slots: one record each. */
 #define GUONTREM_MIN_SLOTS 1
@@ -146,6 +162,134 @@ static inline int guontrem_scan_more(uint64_t answer) { return (int)(answer >> 4
 
 /* With more, the first live docket that has no row, from which another scan goes on; without, 0. */
 static inline uint32_t guontrem_scan_next(uint64_t answer) { return (uint32_t)(answer >> 32 & 0xffff); }
+
+/* The readers: what the tables say of themselves, without a check. It is true of tables that pass guontrem_check. Of others it is
+   whatever stands in their words, and 0 where a table is too short to have them. */
+
+/* The clock of the last accepted timed call; 0 in a fresh store. */
+static inline uint32_t guontrem_read_clock(const uint32_t *entries, size_t entry_words) { return 2 <= entry_words ? entries[1] : 0; }
+
+/* N, the slots, by the entry table's length; 0 where it is the length for no allowed N. */
+static inline uint32_t guontrem_read_slots(size_t entry_words) {
+    int allowed = entry_words % 4 == 0 && GUONTREM_ENTRY_WORDS(GUONTREM_MIN_SLOTS) <= entry_words &&
+                  entry_words <= GUONTREM_ENTRY_WORDS(GUONTREM_MAX_SLOTS);
+    return allowed ? (uint32_t)(entry_words / 4 - 1) : 0;
+}
+
+/* L, T, B and D. */
+struct guontrem_settings {
+    uint32_t deepest, ratio, buffer, term;
+};
+
+/* The settings that the store was made with. */
+static inline struct guontrem_settings guontrem_read_settings(const uint32_t *levels, size_t level_words) {
+    struct guontrem_settings settings = {0, 0, 0, 0};
+    if (level_words < 4) return settings;
+    settings.deepest = levels[0], settings.ratio = levels[1], settings.buffer = levels[2], settings.term = levels[3];
+    return settings;
+}
+
+/* All parts of an answer at once, each as its function above gives it. */
+struct guontrem_timed_answer {
+    uint32_t refusal, merges, purged;
+};
+
+struct guontrem_lookup_answer {
+    uint32_t refusal;
+    int found;
+    uint32_t tally, stamp;
+};
+
+struct guontrem_scan_answer {
+    uint32_t refusal, count;
+    int more;
+    uint32_t next;
+};
+
+static inline struct guontrem_timed_answer guontrem_timed_parts(uint64_t answer) {
+    struct guontrem_timed_answer parts = {guontrem_timed_refusal(answer), guontrem_timed_merges(answer), guontrem_timed_purged(answer)};
+    return parts;
+}
+
+static inline struct guontrem_lookup_answer guontrem_lookup_parts(uint64_t answer) {
+    struct guontrem_lookup_answer parts = {guontrem_lookup_refusal(answer), guontrem_lookup_found(answer),
+                                           guontrem_lookup_tally(answer), guontrem_lookup_stamp(answer)};
+    return parts;
+}
+
+static inline struct guontrem_scan_answer guontrem_scan_parts(uint64_t answer) {
+    struct guontrem_scan_answer parts = {guontrem_scan_refusal(answer), guontrem_scan_count(answer),
+                                         guontrem_scan_more(answer), guontrem_scan_next(answer)};
+    return parts;
+}
+
+/* A store as one struct: two lent tables and their lengths in words. Each function above that takes tables has one here that takes the
+   struct, guontrem_store_put for guontrem_put and so on: what is said there of refusals, of the answer and of the tables holds here.
+   The struct itself is never written; functions that may write the tables take a pointer to it, those that only read a pointer to const. */
+struct guontrem_store {
+    uint32_t *entries;
+    size_t entry_words;
+    uint32_t *levels;
+    size_t level_words;
+};
+
+/* The store of two arrays, to initialize a struct with. A pointer is no array: its store has 1 or 2 words and is refused, ENTRY_LENGTH. */
+#define GUONTREM_STORE(entries, levels) \
+    {(entries), sizeof(entries) / sizeof *(entries), (levels), sizeof(levels) / sizeof *(levels)}
+
+static inline uint32_t guontrem_store_make(struct guontrem_store *store, struct guontrem_settings settings) {
+    return guontrem_make(store->entries, store->entry_words, store->levels, store->level_words,
+                         settings.deepest, settings.ratio, settings.buffer, settings.term);
+}
+
+static inline uint32_t guontrem_store_check(const struct guontrem_store *store) {
+    return guontrem_check(store->entries, store->entry_words, store->levels, store->level_words);
+}
+
+static inline struct guontrem_timed_answer guontrem_store_put(struct guontrem_store *store, uint32_t clock, uint32_t docket,
+                                                              uint32_t tally) {
+    return guontrem_timed_parts(
+        guontrem_put(store->entries, store->entry_words, store->levels, store->level_words, clock, docket, tally));
+}
+
+static inline struct guontrem_timed_answer guontrem_store_delete(struct guontrem_store *store, uint32_t clock, uint32_t docket) {
+    return guontrem_timed_parts(
+        guontrem_delete(store->entries, store->entry_words, store->levels, store->level_words, clock, docket));
+}
+
+static inline struct guontrem_timed_answer guontrem_store_delete_range(struct guontrem_store *store, uint32_t clock, uint32_t lo,
+                                                                       uint32_t hi) {
+    return guontrem_timed_parts(
+        guontrem_delete_range(store->entries, store->entry_words, store->levels, store->level_words, clock, lo, hi));
+}
+
+static inline struct guontrem_timed_answer guontrem_store_flush(struct guontrem_store *store, uint32_t clock) {
+    return guontrem_timed_parts(guontrem_flush(store->entries, store->entry_words, store->levels, store->level_words, clock));
+}
+
+static inline struct guontrem_timed_answer guontrem_store_tick(struct guontrem_store *store, uint32_t clock) {
+    return guontrem_timed_parts(guontrem_tick(store->entries, store->entry_words, store->levels, store->level_words, clock));
+}
+
+static inline struct guontrem_lookup_answer guontrem_store_lookup(const struct guontrem_store *store, uint32_t docket) {
+    return guontrem_lookup_parts(guontrem_lookup(store->entries, store->entry_words, store->levels, store->level_words, docket));
+}
+
+static inline struct guontrem_scan_answer guontrem_store_scan(const struct guontrem_store *store, uint32_t lo, uint32_t hi,
+                                                              struct guontrem_row *rows, size_t row_count) {
+    return guontrem_scan_parts(
+        guontrem_scan(store->entries, store->entry_words, store->levels, store->level_words, lo, hi, rows, row_count));
+}
+
+static inline uint32_t guontrem_store_clock(const struct guontrem_store *store) {
+    return guontrem_read_clock(store->entries, store->entry_words);
+}
+
+static inline uint32_t guontrem_store_slots(const struct guontrem_store *store) { return guontrem_read_slots(store->entry_words); }
+
+static inline struct guontrem_settings guontrem_store_settings(const struct guontrem_store *store) {
+    return guontrem_read_settings(store->levels, store->level_words);
+}
 
 #ifdef __cplusplus
 }

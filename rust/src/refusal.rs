@@ -2,8 +2,11 @@
 use core::fmt;
 
 /// Why a call is refused. Where two apply, the earlier in a call's documentation is the answer.
+///
+/// Later versions may have more: a `match` needs a case for those that it does not name.
 #[derive(Clone, Copy, Debug, PartialEq, Eq, Hash)]
 #[repr(u32)]
+#[non_exhaustive]
 pub enum Refusal {
     /// The entry table's length is that of no allowed number of slots.
     EntryLength = 1,

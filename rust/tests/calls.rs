@@ -2,21 +2,30 @@
 use guontrem::{check, entry_words, level_words, Found, Passed, Refusal, Settings, Store, MAX_DOCKET, MAX_SLOTS};
 
 const SETTINGS: Settings = Settings { deepest: 3, ratio: 2, buffer: 2, term: 9 };
-const NOTHING: Passed = Passed { merges: 0, purged: 0 };
+
+/// Merges and purged of an accepted call.
+fn numbers(answer: Result<Passed, Refusal>) -> Result<(u32, u32), Refusal> {
+    answer.map(|passed| (passed.merges, passed.purged))
+}
+
+/// Tally and stamp of a docket that is found.
+fn tally_and_stamp(answer: Result<Option<Found>, Refusal>) -> Result<Option<(u32, u32)>, Refusal> {
+    Ok(answer?.map(|found| (found.tally, found.stamp)))
+}
 
 #[test]
 fn answers_of_the_paper() -> Result<(), Refusal> {
     let (mut entries, mut levels) = ([0xdead; entry_words(6)], [0xbeef; level_words(3)]);
     let mut store = Store::make(&mut entries, &mut levels, SETTINGS)?;
-    assert_eq!(store.put(1, 7, 70)?, NOTHING);
-    assert_eq!(store.put(1, 8, 80)?, Passed { merges: 1, purged: 0 });
-    assert_eq!(store.delete(2, 7)?, NOTHING);
-    assert_eq!(store.put(3, 9, 90)?, Passed { merges: 1, purged: 1 });
+    assert_eq!(numbers(store.put(1, 7, 70)), Ok((0, 0)));
+    assert_eq!(numbers(store.put(1, 8, 80)), Ok((1, 0)));
+    assert_eq!(numbers(store.delete(2, 7)), Ok((0, 0)));
+    assert_eq!(numbers(store.put(3, 9, 90)), Ok((1, 1)));
     assert_eq!(store.lookup(7)?, None);
-    assert_eq!(store.put(4, 7, 71)?, NOTHING);
-    assert_eq!(store.tick(5)?, Passed { merges: 1, purged: 0 });
-    assert_eq!(store.lookup(7)?, Some(Found { tally: 71, stamp: 4 }));
-    assert_eq!(store.tick(11)?, Passed { merges: 1, purged: 1 });
+    assert_eq!(numbers(store.put(4, 7, 71)), Ok((0, 0)));
+    assert_eq!(numbers(store.tick(5)), Ok((1, 0)));
+    assert_eq!(tally_and_stamp(store.lookup(7)), Ok(Some((71, 4))));
+    assert_eq!(numbers(store.tick(11)), Ok((1, 1)));
     assert_eq!(store.flush(10), Err(Refusal::Clock));
     Ok(())
 }
@@ -26,10 +35,10 @@ fn a_range_and_a_flush() -> Result<(), Refusal> {
     let (mut entries, mut levels) = ([0; entry_words(6)], [0; level_words(3)]);
     let mut store = Store::make(&mut entries, &mut levels, SETTINGS)?;
     store.put(1, 100, u32::MAX)?;
-    assert_eq!(store.lookup(100)?, Some(Found { tally: u32::MAX, stamp: 1 }));
-    assert_eq!(store.delete_range(u32::MAX, 0, MAX_DOCKET)?, Passed { merges: 0, purged: 1 });
+    assert_eq!(tally_and_stamp(store.lookup(100)), Ok(Some((u32::MAX, 1))));
+    assert_eq!(numbers(store.delete_range(u32::MAX, 0, MAX_DOCKET)), Ok((0, 1)));
     assert_eq!(store.lookup(100)?, None);
-    assert_eq!(store.flush(u32::MAX)?, Passed { merges: 1, purged: 0 });
+    assert_eq!(numbers(store.flush(u32::MAX)), Ok((1, 0)));
     Ok(())
 }
 
@@ -54,10 +63,10 @@ fn every_refusal() {
     assert_eq!(store.delete_range(1, 1, 0), Err(Refusal::Docket));
     assert_eq!(store.lookup(MAX_DOCKET + 1), Err(Refusal::Docket));
     assert_eq!(store.tick(0), Err(Refusal::Clock));
-    assert_eq!(store.put(1, 5, 50), Ok(Passed { merges: 1, purged: 0 }));
-    assert_eq!(store.put(2, 5, 51), Ok(Passed { merges: 1, purged: 1 }));
+    assert_eq!(numbers(store.put(1, 5, 50)), Ok((1, 0)));
+    assert_eq!(numbers(store.put(2, 5, 51)), Ok((1, 1)));
     assert_eq!(store.put(3, 6, 60), Err(Refusal::Full));
-    assert_eq!(store.delete(4, 5), Ok(Passed { merges: 0, purged: 2 }));
+    assert_eq!(numbers(store.delete(4, 5)), Ok((0, 2)));
     entries[2] = 1;
     let before = (entries.clone(), levels.clone());
     assert_eq!(check(&entries, &levels), Err(Refusal::Unsound));
@@ -86,7 +95,18 @@ fn the_largest_store() -> Result<(), Refusal> {
     let (mut entries, mut levels) = (vec![0; entry_words(MAX_SLOTS)], vec![0; level_words(6)]);
     let mut store =
         Store::make(&mut entries, &mut levels, Settings { deepest: 6, ratio: 10, buffer: 64, term: u32::MAX })?;
-    assert_eq!(store.put(1, MAX_DOCKET, 1)?, NOTHING);
-    assert_eq!(store.lookup(MAX_DOCKET)?, Some(Found { tally: 1, stamp: 1 }));
+    assert_eq!(numbers(store.put(1, MAX_DOCKET, 1)), Ok((0, 0)));
+    assert_eq!(tally_and_stamp(store.lookup(MAX_DOCKET)), Ok(Some((1, 1))));
     Ok(())
+}
+
+/// The crate and the header are of one version.
+#[test]
+fn the_version() {
+    let number = |name: &str| {
+        let line = include_str!("../../include/guontrem.h").lines().find_map(|line| line.strip_prefix(name));
+        line.expect("the header has it").trim().to_string()
+    };
+    let (major, minor) = (number("#define GUONTREM_VERSION_MAJOR"), number("#define GUONTREM_VERSION_MINOR"));
+    assert_eq!(env!("CARGO_PKG_VERSION"), format!("{major}.{minor}.0"));
 }

@@ -1,7 +1,16 @@
 //! Scans through the wrapper.
 use guontrem::{entry_words, level_words, Refusal, Row, Scanned, Settings, Store, MAX_DOCKET};
 
-const JUNK: Row = Row { docket: 1, tally: 2, stamp: 3 };
+/// A row that no scan would fill.
+fn junk() -> Row {
+    let mut row = Row::default();
+    (row.docket, row.tally, row.stamp) = (MAX_DOCKET + 1, 2, 3);
+    row
+}
+
+fn count_and_next(answer: Result<Scanned, Refusal>) -> Result<(usize, Option<u32>), Refusal> {
+    answer.map(|scanned| (scanned.count, scanned.next))
+}
 
 #[test]
 fn rows_and_the_next_docket() -> Result<(), Refusal> {
@@ -11,17 +20,14 @@ fn rows_and_the_next_docket() -> Result<(), Refusal> {
         store.put(clock, docket, 10 * clock)?;
     }
     store.delete(5, 40)?;
-    let live = [
-        Row { docket: 0, tally: 20, stamp: 2 },
-        Row { docket: 30, tally: 40, stamp: 4 },
-        Row { docket: MAX_DOCKET, tally: 10, stamp: 1 },
-    ];
-    let mut rows = [JUNK; 4];
-    assert_eq!(store.scan(0, MAX_DOCKET, &mut rows)?, Scanned { count: 3, next: None });
-    assert_eq!((&rows[..3], rows[3]), (&live[..], JUNK));
-    assert_eq!(store.scan(0, MAX_DOCKET, &mut rows[..2])?, Scanned { count: 2, next: Some(MAX_DOCKET) });
-    assert_eq!(store.scan(1, 29, &mut rows)?, Scanned { count: 0, next: None });
-    assert_eq!(store.scan(0, 0, &mut [])?, Scanned { count: 0, next: Some(0) });
+    let mut rows = [junk(); 4];
+    assert_eq!(count_and_next(store.scan(0, MAX_DOCKET, &mut rows)), Ok((3, None)));
+    let live = [(0, 20, 2), (30, 40, 4), (MAX_DOCKET, 10, 1)];
+    assert!(rows[..3].iter().map(|row| (row.docket, row.tally, row.stamp)).eq(live));
+    assert_eq!(rows[3], junk());
+    assert_eq!(count_and_next(store.scan(0, MAX_DOCKET, &mut rows[..2])), Ok((2, Some(MAX_DOCKET))));
+    assert_eq!(count_and_next(store.scan(1, 29, &mut rows)), Ok((0, None)));
+    assert_eq!(count_and_next(store.scan(0, 0, &mut [])), Ok((0, Some(0))));
     Ok(())
 }
 
@@ -29,8 +35,8 @@ fn rows_and_the_next_docket() -> Result<(), Refusal> {
 fn a_refused_scan_writes_no_row() {
     let (mut entries, mut levels) = ([0; entry_words(1)], [0; level_words(2)]);
     let store = Store::make(&mut entries, &mut levels, Settings { deepest: 2, ratio: 2, buffer: 1, term: 1 }).unwrap();
-    let mut rows = [JUNK; 2];
+    let mut rows = [junk(); 2];
     assert_eq!(store.scan(1, 0, &mut rows), Err(Refusal::Docket));
     assert_eq!(store.scan(0, MAX_DOCKET + 1, &mut rows), Err(Refusal::Docket));
-    assert_eq!(rows, [JUNK; 2]);
+    assert_eq!(rows, [junk(); 2]);
 }

@@ -74,4 +74,5 @@ void report_counts(void) {
     for (int i = 0; i < DAMAGES; i++) tell(damage_names[i], counts.damages[i]);
     tell("calls on damaged tables that were refused for it", counts.no_longer_sound);
     tell("calls on damaged tables that stayed sound", counts.still_sound);
+    tell("calls made by the header's wrappers too", counts.wrapped);
 }

@@ -12,6 +12,8 @@ struct counts {
     uint64_t no_rows, one_row, exact_rows, fewer_rows, more_rows;
     /* Damaged tables by how they were damaged, and calls on them by what the check says before. */
     uint64_t damages[DAMAGES], still_sound, no_longer_sound;
+    /* Calls made by the header's wrappers too. */
+    uint64_t wrapped;
 };
 extern struct counts counts;
 

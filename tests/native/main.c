@@ -7,6 +7,7 @@
 #include "random.h"
 #include "tables.h"
 #include "twins.h"
+#include "wrappers.h"
 
 #include <inttypes.h>
 #include <stdio.h>
@@ -121,6 +122,7 @@ int main(int count, char **words) {
     printf("%" PRIu64 " calls, seed %" PRIu64 "\n", calls, seed);
     fflush(stdout);
     check_limits();
+    check_wrappers();
     seed_random(seed);
     run_part(run_fresh, calls * 50 / 100, 300);
     run_part(run_sound, calls * 15 / 100, 10);

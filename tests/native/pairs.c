@@ -4,10 +4,14 @@
 #include "counts.h"
 #include "native_check.h"
 #include "scans.h"
+#include "wrappers.h"
 
 #include <stdio.h>
 #include <stdlib.h>
 #include <string.h>
+
+/* One in so many calls is made by the header's wrappers too. */
+enum { WRAPPED_SHARE = 8 };
 
 const char *const kind_names[KINDS] = {"make", "check", "lookup", "scan", "put", "delete", "delete_range", "flush", "tick"};
 
@@ -79,6 +83,7 @@ struct answer run_both(struct pair *p, const struct call *c) {
     copy_words(&p->before, &p->proved);
     struct answer a = c->kind == SCAN ? scan_both(p, c) : call_both(p, c);
     compare_tables(p, c, a.refusal);
+    if (counts.calls % WRAPPED_SHARE == 0) compare_wrapped(p, c);
     count_call(c->kind, a);
     return a;
 }

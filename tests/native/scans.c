@@ -15,14 +15,15 @@ size_t live_dockets(const struct store *s, uint32_t lo, uint32_t hi) {
     return native_scan(s->entries, s->entry_words, s->levels, s->level_words, lo, hi, rows, MOST_DOCKETS).count;
 }
 
-/* Rows that no scan would write. */
-static struct guontrem_row *junk_rows(size_t count) {
+struct guontrem_row *junk_rows(size_t count) {
     size_t bytes = (count + spare_rows) * sizeof(struct guontrem_row);
     struct guontrem_row *rows = malloc(bytes);
     if (rows == NULL) exit(2);
     memset(rows, 0xa5, bytes);
     return rows;
 }
+
+bool same_rows(const struct guontrem_row *a, const struct guontrem_row *b, size_t count) { return memcmp(a, b, (count + spare_rows) * sizeof *a) == 0; }
 
 /* The check is left out, since a scan that is not refused has done it. */
 static struct answer scan_by_lookups(const struct store *s, const struct call *c, struct guontrem_row *rows) {
@@ -39,7 +40,7 @@ static struct answer scan_by_lookups(const struct store *s, const struct call *c
 
 static void compare_scans(const struct pair *p, const struct call *c, struct answer a, const struct guontrem_row *x, struct answer b, const struct guontrem_row *y) {
     if (memcmp(&a, &b, sizeof a) != 0) fail("the scans' answers differ", p, c);
-    if (memcmp(x, y, (c->row_count + spare_rows) * sizeof *x) != 0) fail("the scans' rows differ", p, c);
+    if (!same_rows(x, y, c->row_count)) fail("the scans' rows differ", p, c);
 }
 
 struct answer scan_both(const struct pair *p, const struct call *c) {
