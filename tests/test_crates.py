@@ -45,14 +45,16 @@ class Crates(unittest.TestCase):
             found = used(crate, set(self.named))
             wrong += [f"crates.txt, {crate}: its files use {u}, its line does not name it" for u in sorted(found - set(uses))]
             wrong += [f"crates.txt, {crate}: its line names {u}, which no file of it uses" for u in sorted(set(uses) - found)]
-        self.assertEqual(wrong, [])
+        self.assertEqual(wrong, [], "\n" + "\n".join(wrong))
 
     def test_order(self):
         """A line names crates above it alone, in the order of the file, the toolchain's last."""
-        order = [*self.named, *sorted(TOOLCHAIN)]
-        wrong = [f"crates.txt, {crate}: {u} stands below it" for crate, uses in self.named.items() for u in uses if u in self.named and order.index(u) >= order.index(crate)]
-        wrong += [f"crates.txt, {crate}: not in the order of the file: {' '.join(uses)}" for crate, uses in self.named.items() if uses != sorted(uses, key=order.index)]
-        self.assertEqual(wrong, [])
+        order, wrong = [*self.named, *sorted(TOOLCHAIN)], []
+        for crate, uses in self.named.items():
+            wrong += [f"crates.txt, {crate}: {u} stands below it" for u in uses if order.index(u) >= order.index(crate) and u in self.named]
+            if uses != sorted(uses, key=order.index):
+                wrong.append(f"crates.txt, {crate}: not in the order of the file: {' '.join(uses)}")
+        self.assertEqual(wrong, [], "\n" + "\n".join(wrong))
 
     def test_picture(self):
         drawn = picture.PICTURE.read_text() == picture.picture(self.text)
