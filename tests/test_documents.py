@@ -240,6 +240,17 @@ class Names(Pages):
         lost += [f"no page names {p.name}" for p in sorted((ROOT / "tests").glob("test_*.py")) if f"`tests/{p.name}`" not in told]
         self.none(lost, "names or places that are not there, or not told")
 
+    def test_files_of_a_folder(self):
+        """`Files of crate/folder` names files of it; all of them where they are definitions."""
+        lost = []
+        for page in PAGES:
+            for folder, text in re.findall(r"^Files of `(\w+/\w+)`:(.*?)\n\n", page_text(page), re.M | re.S):
+                there = {p.stem for p in (CRATES / folder).glob("*.antt")} - {"Lib"}
+                told = {span for _, span in spans(text) if re.fullmatch(r"[A-Z]\w*", span)}
+                lost += [f"{page.name}: {folder} has no file {name}" for name in sorted(told - there)]
+                lost += [f"{page.name}: {folder} has a file {name} that is not told" for name in sorted(there - told) if folder.endswith("/specs")]
+        self.none(lost, "files that are not there, or not told")
+
     def test_decisions(self):
         """Decisions are numbered from 1, and a page that names one names one that is there."""
         numbers = [int(n) for n in re.findall(r"^(\d+)\. \*\*", page_text(DOCS / "DECISIONS.md"), re.M)]
