@@ -9,7 +9,7 @@ ROOT = pathlib.Path(__file__).parent.parent
 CALLS, SCANS = ROOT / "target" / "bench_calls", ROOT / "target" / "bench_scans"
 REPORT, PLOT = ROOT / "docs" / "BENCHMARK.md", ROOT / "docs" / "benchmark.svg"
 MEANINGS = {
-    "mixed": "40 % puts, 10 % deletes, 5 % range deletes, 5 % flushes, 10 % ticks, 30 % lookups; half the slots' worth of dockets",
+    "mixed": "40 % puts, 30 % lookups, 10 % deletes, 10 % ticks, 5 % range deletes, 5 % flushes; dockets half the slots",
     "lookup": "a docket, after as many mixed calls as slots",
     "delete-heavy": "45 % puts, 45 % deletes, 10 % ticks",
     "range-heavy": "50 % puts, 40 % range deletes of one to five dockets, 10 % ticks",
@@ -19,10 +19,11 @@ MEANINGS = {
 }
 HEAD = """# Time per call
 
-`bash scripts/bench calls` writes this page: the proved library beside the same calls written plainly in C (`native/native_store.c`, gcc -O3), by turns in
-one process, the same calls on copies of the same tables. Medians of 15 to 61 rounds, each but at the largest N on new tables, in microseconds of processor
-time; a ratio is the median of the rounds' own ratios. Each call includes the check of both tables, which is linear in N. L = 3, T = 4, B = 8, D = 1,000. When
-this was measured the machine had {processors} processors and a load average of {load:.1f}.
+`bash scripts/bench calls` writes this page: the proved library beside the same calls written plainly in C
+(`native/native_store.c`, gcc -O3), by turns in one process, the same calls on copies of the same tables. Medians of 15
+to 61 rounds, each but at the largest N on new tables, in microseconds of processor time; a ratio is the median of the
+rounds' own ratios. Each call includes the check of both tables, which is linear in N. L = 3, T = 4, B = 8, D = 1,000.
+When this was measured the machine had {processors} processors and a load average of {load:.1f}.
 
 ![Time per call and time per slot against the slots, on logarithmic axes](benchmark.svg)
 """
@@ -32,20 +33,22 @@ SHAPES = {
     "mixed calls": "half the slots' worth of dockets, then as many mixed calls as slots",
     "put at random": "every slot live, dockets put in random order",
     "put ascending": "every slot live, dockets put in ascending order",
-    "two by turns": "every slot live, docket after docket in the two deepest levels by turns, in the order of slots: laid out, not put",
+    "two by turns": "every slot live, dockets in the two deepest levels by turns, in the order of slots: laid out, not put",
     "three by turns": "the same in three levels",
     "seven by turns": "the same in seven, L = 6",
     "two at random": "the same in two levels, which of them drawn for each docket",
     "seven at random": "the same in seven, L = 6",
-    "ranges between": "half the slots live in the deepest level, and between each two dockets a range delete in the level above",
+    "ranges between": "half the slots live in the deepest level, between each two a range delete in the level above",
     "put twice": "half the slots live: each docket in both of the two deepest levels",
 }
 IN_LOOKUPS = """## A scan of all live dockets, in lookups on the same tables
 
-Proved, and in brackets C. Each round goes through all sizes, and at each times lookups of live dockets, scans of all, and lookups again, on the same tables; so
-a change of the machine's speed falls on both. There are sixteen tables of each size but the largest, used one after the other, each with rows of its own: 4,000
-slots are then read from as much memory as 65,535, and written to as much, and a processor cannot learn the order of a table's levels by heart. Medians of 41 rounds. The last column is what a round found at 65,535
-over what it found at 4,000: the median, and between which numbers the middle half of the rounds lies.
+Proved, and in brackets C. Each round goes through all sizes, and at each times lookups of live dockets, scans of all,
+and lookups again, on the same tables; so a change of the machine's speed falls on both. There are sixteen tables of
+each size but the largest, used one after the other, each with rows of its own: 4,000 slots are then read from as much
+memory as 65,535, and written to as much, and a processor cannot learn the order of a table's levels by heart. Medians
+of 41 rounds. The last column is what a round found at 65,535 over what it found at 4,000: the median, and between which
+numbers the middle half of the rounds lies.
 """
 
 
