@@ -16,10 +16,7 @@ ghost use Rattle.chain_cover.specs.Skips.{first-slot, beginning, reachin
 pub fn covers(lo: u32, hi: u32, docket: u32) -> bool
     ensures { λ r. ⌜ r ≡ covers lo hi docket ⌝ }
 {
-    if docket < lo {
-        return false;
-    }
-    docket <= hi
+    lo <= docket && docket <= hi
 }
 
 // Walks the records, which ascend by lo, no farther than the docket.
