@@ -2,9 +2,9 @@
 use mathlib.Core.Bool.{Bool}
 use mathlib.Core.List.{List, [], _∷_}
 use Prim.Native.Nat.{ℕ, _+_, _*_, _/_, _%_}
-use lib.Dec.{ltb}
-use Rattle.settings.specs.Limits.{within}
+use lib.Dec.{ltb, eqb}
 use Rattle.lists.specs.Lists.{any}
+use Rattle.model.specs.Coverage.{covers}
 use Rattle.tables.specs.Slots.{Slot, slot-at, kind-of}
 use Rattle.tables.specs.Placed.{Cell}
 
@@ -28,12 +28,15 @@ cell-key c = cell-lo c * 65536 + cell-hi c
 abbrev pub cell-before : Cell → Cell → Bool
 cell-before c d = ltb (cell-key c) (cell-key d)
 
--- A cell is over the dockets from its lo to its hi, a point over its own.
-abbrev pub cell-over : ℕ → Cell → Bool
-cell-over k c = within (cell-lo c) k (cell-hi c)
+-- A range's cell covers the docket; some cell of ranges does; some cell of points has it.
+abbrev pub cell-covers : Cell → ℕ → Bool
+cell-covers c k = covers (cell-lo c) (cell-hi c) k
 
-abbrev pub any-over : List Cell → ℕ → Bool
-any-over cs k = any (cell-over k) cs
+abbrev pub cells-cover : List Cell → ℕ → Bool
+cells-cover cs k = any (λ c. cell-covers c k) cs
+
+abbrev pub cells-name : List Cell → ℕ → Bool
+cells-name cs k = any (λ c. eqb (cell-lo c) k) cs
 
 -- The slot before a place, when these cells stand before it: 0 where none do.
 abbrev pub last-from : ℕ → List Cell → ℕ

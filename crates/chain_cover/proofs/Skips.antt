@@ -1,20 +1,24 @@
 -- What is left of an ordered chain whose front is passed: an ordered chain, over the same dockets from the one asked for on.
 use mathlib.Core.Path.{_≡_, refl, subst}
-use mathlib.Core.Bool.{Bool, true}
-use mathlib.Core.List.{List, [], _∷_}
+use mathlib.Core.Bool.{Bool, true, false}
+use mathlib.Core.Logic.{_≢_}
+use mathlib.Core.List.{List, [], _∷_, map}
 use Prim.Native.Nat.{ℕ, _+_, _<_, _≤_}
 use native.Mathlib.Omega.{arith}
-use borrow.Author.Tests.{lt-leb, ltb-true, le-ltb, lt-ltb}
-use lib.Dec.{leb, ltb}
+use borrow.Author.Tests.{ne-eqb, ltb-true, ltb-false, le-ltb, lt-ltb}
+use lib.Dec.{eqb, leb, ltb}
 use lib.ListN.{length}
 use Rattle.lists.specs.Lists.{any}
-use Rattle.lists.proofs.Bools.{cond-elim, and-false-right, and-right}
+use Rattle.lists.proofs.Bools.{cond-elim, and-right}
+use Rattle.model.specs.Merge.{range-covers}
+use Rattle.model.proofs.Coverage.{covers-past}
 use Rattle.tables.specs.Slots.{next-of, lo-of, hi-of}
 use Rattle.tables.specs.Sound.{chain-from, ascend, order-key}
+use Rattle.tables.specs.Placed.{read-point, read-range}
 use Rattle.chain_cover.specs.Walks.{Walkable, Ordered}
-use Rattle.chain_cover.specs.Skips.{drop-while, first-slot, from-bound, reaching}
+use Rattle.chain_cover.specs.Skips.{drop-while, first-slot, from-bound, beginning, reaching, Ahead}
 use Rattle.chain_cover.proofs.Chains.{On, chain-is, chain-short, chain-end, ascend-any}
-use Rattle.chain_cover.proofs.Walks.{slots-say, ranges-say}
+use Rattle.chain_cover.proofs.Walks.{ranges-say, points-name}
 
 -- A chain that ends in the table, in order.
 record Whole (e : List ℕ) (h : ℕ) (ss : List ℕ) : Type 0 where
@@ -42,14 +46,22 @@ module _ (e : List ℕ) where
       cond-elim (λ l. Whole e (first-slot l) l) (test s) (drop-while test ss) (s ∷ ss)
       (λ p. drop-whole test (next-of e s) ss (whole-rest h s ss w)) (λ p. subst (λ (x : ℕ). Whole e x (s ∷ ss)) (whole-first h (s ∷ ss) w) w)
 
-  -- Slots that end before docket j are not over docket k, which is no earlier.
-  reaching-says : (j k : ℕ) → j ≤ k → (ss : List ℕ) → slots-say e ss k ≡ slots-say e (reaching e j ss) k
-  unfolding any drop-while
-  reaching-says j k le [] = refl
-  reaching-says j k le (s ∷ ss) =
-      cond-elim (λ l. slots-say e (s ∷ ss) k ≡ slots-say e l k) (ltb (hi-of e s) j) (reaching e j ss) (s ∷ ss)
-      (λ p. rw (and-false-right (leb (lo-of e s) k) (leb k (hi-of e s)) (lt-leb k (hi-of e s) (omega (arith, ltb-true (hi-of e s) j p)))) (reaching-says j k le ss))
-      (λ p. refl)
+-- Slots whose bound is before the docket are passed: if none of them would say so, what is left says what all do.
+front-any : {X : Type 0} (read : ℕ → X) (asks : X → Bool) (bound : ℕ → ℕ) (k : ℕ) → ((s : ℕ) → bound s < k → asks (read s) ≡ false)
+    → (ss : List ℕ) → any asks (map read ss) ≡ any asks (map read (from-bound bound k ss))
+unfolding any drop-while
+front-any read asks bound k off [] = refl
+front-any read asks bound k off (s ∷ ss) =
+    cond-elim (λ l. any asks (map read (s ∷ ss)) ≡ any asks (map read l)) (ltb (bound s) k) (from-bound bound k ss) (s ∷ ss)
+    (λ p. rw (off s (ltb-true (bound s) k p)) (front-any read asks bound k off ss)) (λ p. refl)
+
+-- The first slot that is left has a bound no earlier.
+front-first : (bound : ℕ → ℕ) (k : ℕ) (ss : List ℕ) → first-slot (from-bound bound k ss) ≢ 0 → k ≤ bound (first-slot (from-bound bound k ss))
+unfolding drop-while
+front-first bound k [] = λ some. absurd (some refl)
+front-first bound k (s ∷ ss) =
+    cond-elim (λ l. first-slot l ≢ 0 → k ≤ bound (first-slot l)) (ltb (bound s) k) (from-bound bound k ss) (s ∷ ss)
+    (λ p. front-first bound k ss) (λ p some. ltb-false (bound s) k p)
 
 module _ (e : List ℕ) (bound : ℕ → ℕ) (h k : ℕ) (o : Ordered e h) where
   abbrev left : List ℕ
@@ -70,9 +82,20 @@ module _ (e : List ℕ) (bound : ℕ → ℕ) (h k : ℕ) (o : Ordered e h) wher
       order = rw front-chain (left-whole .order);
     }
 
-module _ (e : List ℕ) (h k : ℕ) (o : Ordered e h) (r : ℕ) (is : r ≡ first-slot (reaching e k (chain-from e h))) where
-  pub skip-says : (j : ℕ) → k ≤ j → ranges-say e h j ≡ ranges-say e r j
-  skip-says j le = rw (front-chain e (hi-of e) h k o r is) (reaching-says e k j le (chain-from e h))
+    pub front-ahead : Ahead e bound r k
+    front-ahead = record { ordered = front-ordered; first = λ some. rw is (front-first bound k (chain-from e h) (rw is at some)) }
+
+-- Ranges that end before docket k cover no docket from it on; points that lie before it have none.
+module _ (e : List ℕ) (h k : ℕ) (o : Ordered e h) (r : ℕ) where
+  pub skip-says : r ≡ first-slot (reaching e k (chain-from e h)) → (j : ℕ) → k ≤ j → ranges-say e h j ≡ ranges-say e r j
+  skip-says is j le =
+      rw (front-chain e (hi-of e) h k o r is)
+      (front-any (read-range e) (λ q. range-covers q j) (hi-of e) k (λ s lt. covers-past (lo-of e s) (hi-of e s) j (omega arith)) (chain-from e h))
+
+  pub seek-names : r ≡ first-slot (beginning e k (chain-from e h)) → (j : ℕ) → k ≤ j → points-name e h j ≡ points-name e r j
+  seek-names is j le =
+      rw (front-chain e (lo-of e) h k o r is)
+      (front-any (read-point e) (λ p. eqb (p .key) j) (lo-of e) k (λ s lt. ne-eqb (lo-of e s) j (λ q. omega arith)) (chain-from e h))
 
 -- Each turn of a walk, and each way out of it.
 module _ (e : List ℕ) (bound : ℕ → ℕ) (h k : ℕ) where

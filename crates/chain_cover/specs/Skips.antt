@@ -1,8 +1,10 @@
 -- A chain without the records at its front that begin, or end, before a docket.
+use mathlib.Core.Logic.{_≢_}
 use mathlib.Core.Bool.{Bool, cond}
 use mathlib.Core.List.{List, [], _∷_}
-use Prim.Native.Nat.{ℕ}
+use Prim.Native.Nat.{ℕ, _≤_}
 use lib.Dec.{ltb}
+use Rattle.chain_cover.specs.Walks.{Ordered}
 use Rattle.tables.specs.Slots.{lo-of, hi-of}
 
 -- The list from the first element on that fails the test.
@@ -25,3 +27,8 @@ beginning e k ss = from-bound (lo-of e) k ss
 
 abbrev pub reaching : List ℕ → ℕ → List ℕ → List ℕ
 reaching e k ss = from-bound (hi-of e) k ss
+
+-- An ordered chain whose front is passed: its first record, where it has one, has a bound no earlier than the docket.
+pub record Ahead (e : List ℕ) (bound : ℕ → ℕ) (at k : ℕ) : Type 0 where
+  pub ordered : Ordered e at
+  pub first : at ≢ 0 → k ≤ bound at

@@ -5,7 +5,7 @@ use mathlib.Core.List.{List}
 use Prim.Native.Nat.{ℕ}
 use native.Mathlib.Omega.{arith}
 use lib.ListN.{length}
-use Rattle.tables.specs.Slots.{InTable, Slot, slot-at, set-slot, link-to, kind-of, free-slot, first-free, with-link, with-stamp}
+use Rattle.tables.specs.Slots.{InTable, slot-at, link-to, kind-of, free-slot, first-free, with-link, with-stamp}
 use Rattle.tables.proofs.Slots.{length-set-slot, slot-other, slot-same}
 use Rattle.chain_links.specs.Links.{linked, released, stamped}
 

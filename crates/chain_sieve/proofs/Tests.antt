@@ -1,11 +1,12 @@
 -- What each outcome of the code's comparisons tells of the test.
 use mathlib.Core.Path.{_≡_}
 use mathlib.Core.Logic.{_≢_}
-use mathlib.Core.Bool.{false}
-use Prim.Native.Nat.{ℕ, _<_, _≤_}
+use mathlib.Core.Bool.{Bool, false}
+use Prim.Native.Nat.{ℕ}
 use native.Mathlib.Omega.{arith}
-use borrow.Author.Tests.{eq-eqb, ne-eqb, le-leb, lt-leb}
-use lib.Dec.{eqb, leb}
+use borrow.Author.Tests.{eq-eqb, ne-eqb}
+use lib.Dec.{eqb}
+use Rattle.model.specs.Coverage.{covers}
 use Rattle.tables.specs.Placed.{Cell}
 use Rattle.chain_cells.specs.Cells.{cell-lo, cell-hi}
 use Rattle.chain_sieve.specs.Doomed.{doomed}
@@ -17,11 +18,8 @@ module _ (which : Doomed) (c : Cell) where
   by-kind kind q k = rw (q, k)
 
 module _ (which : Doomed) (c : Cell) (lo hi key : ℕ) (key≡ : key ≡ cell-lo c) where
-  pub before-points : which ≡ Points lo hi → key < lo → false ≡ doomed which c
-  before-points q h = rw (q, lt-leb lo (cell-lo c) (omega arith))
-
-  pub up-to-points : which ≡ Points lo hi → lo ≤ key → leb key hi ≡ doomed which c
-  up-to-points q h = rw (q, key≡, le-leb lo (cell-lo c) (omega arith))
+  pub by-points : (says : Bool) → which ≡ Points lo hi → says ≡ covers lo hi key → says ≡ doomed which c
+  by-points says q s = rw (q, ← key≡) s
 
   pub other-range : which ≡ Range lo hi → key ≢ lo → false ≡ doomed which c
   other-range q h = rw (q, ne-eqb (cell-lo c) lo (λ r. h (omega arith)))

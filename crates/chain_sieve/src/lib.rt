@@ -1,6 +1,7 @@
 // Cells of one kind dropped from a chain: deletes, all of them, points of some dockets, or one range.
 use chain_cells::Cursor;
 use chain_cells::sift;
+use chain_cover::covers;
 use table_slots::DELETE;
 use table_slots::hi_of;
 use table_slots::kind_of;
@@ -17,7 +18,7 @@ ghost use Rattle.chain_cells.specs.Cells.{cell-at};
 ghost use Rattle.chain_cells.specs.Sifting.{Chain, OneHeld, Sifted};
 ghost use Rattle.chain_sieve.specs.Doomed.{doomed};
 
-// Which cells go: the deletes among points, all cells, points from lo to hi, the range from lo to hi.
+// Which cells go: the deletes among points, all cells, the points that the delete from lo to hi covers, the range from lo to hi.
 pub enum Doomed {
     Deletes,
     All,
@@ -66,13 +67,7 @@ fn is_doomed(e: &[u32], slot: usize, which: Doomed) -> bool
     match which {
         Doomed::Deletes => kind_of(e, slot) == DELETE,
         Doomed::All => true,
-        Doomed::Points(lo, hi) => {
-            let key = lo_of(e, slot);
-            if key < lo {
-                return false;
-            }
-            key <= hi
-        },
+        Doomed::Points(lo, hi) => covers(lo, hi, lo_of(e, slot)),
         Doomed::Range(lo, hi) => {
             if lo_of(e, slot) != lo {
                 return false;

@@ -14,8 +14,8 @@ use Rattle.chain_cells.specs.Cells.{cell-before}
 use Rattle.merge_strike.specs.Striking.{goes-under}
 use Rattle.merge_unite.specs.Uniting.{doubled}
 use Rattle.merge_join.proofs.Maps.{select-map-where, reject-map-where}
-use Rattle.merge_join.proofs.Points.{Keyed, point-lo, points-over, points-merge}
-use Rattle.merge_join.proofs.Ranges.{Spanned, ranges-over, ranges-merge, range-doubled, all-later-spanned}
+use Rattle.merge_join.proofs.Points.{Keyed, point-lo, points-name, points-merge}
+use Rattle.merge_join.proofs.Ranges.{Spanned, ranges-cover, ranges-merge, range-doubled, all-later-spanned}
 
 -- Slots that go one after the other.
 pub release-append : (xs ys free : List ℕ) → release (xs ++ ys) free ≡ release ys (release xs free)
@@ -31,10 +31,7 @@ module _ {t : ℕ} {u l : Level ℕ ℕ} (f : LevelFormed t u) (g : LevelFormed 
 
   -- The cells that go are those of the records that go.
   points-under : All (λ p. under (point-cell p) ≡ point-goes u p) (l .points)
-  points-under =
-      all-weaken Keyed _
-      (λ p low. rw (point-lo p low, points-over (u .points) (f .keys) (p .key), ranges-over (u .ranges) (f .spans) (p .key)))
-      (l .points) (g .keys)
+  points-under = all-weaken Keyed _ (λ p low. rw (point-lo p low, points-name (u .points) (f .keys) (p .key), ranges-cover (u .ranges) (f .spans) (p .key))) (l .points) (g .keys)
 
   ranges-doubled : All (λ q. double (range-cell q) ≡ range-goes (u .ranges) q) (l .ranges)
   ranges-doubled = all-weaken Spanned _ (range-doubled (u .ranges) (f .spans)) (l .ranges) (g .spans)

@@ -10,12 +10,12 @@ use Rattle.lists.proofs.Tests.{all-map, all-weaken, select-map, select-same}
 use Rattle.model.specs.Records.{Entry, value, tombstone, Point, is-put}
 use Rattle.model.specs.Merge.{names, point-before}
 use Rattle.tables.specs.Placed.{entry-kind, point-cell}
-use Rattle.chain_cells.specs.Cells.{cell-lo, cell-hi, cell-before, cell-over, any-over}
+use Rattle.chain_cells.specs.Cells.{cell-lo, cell-hi, cell-before, cells-name}
 use Rattle.chain_cells.specs.Order.{CellsOrdered}
 use Rattle.chain_sieve.specs.Doomed.{doomed}
 use Rattle.chain_sieve.specs.declared.Doomed.the-variants.{Deletes}
 use Rattle.merge_join.proofs.Maps.{any-map-where, merge-map-where, map-ascending-where}
-use Rattle.merge_join.proofs.Spans.{span-lo, span-hi, within-one, key-one}
+use Rattle.merge_join.proofs.Spans.{span-lo, span-hi, key-one}
 
 -- A docket that half a word can hold.
 abbrev pub Keyed : Point ℕ ℕ → Type 0
@@ -27,16 +27,15 @@ point-lo p = span-lo (p .key) (p .key)
 point-hi : (p : Point ℕ ℕ) → Keyed p → cell-hi (point-cell p) ≡ p .key
 point-hi p = span-hi (p .key) (p .key)
 
-point-over : (k : ℕ) (p : Point ℕ ℕ) → Keyed p → cell-over k (point-cell p) ≡ eqb (p .key) k
-point-over k p low = rw (point-lo p low, point-hi p low) (within-one (p .key) k)
-
 cells-before : (p q : Point ℕ ℕ) → Keyed p → Keyed q → cell-before (point-cell p) (point-cell q) ≡ point-before p q
 cells-before p q a b = rw (point-lo p a, point-hi p a, point-lo q b, point-hi q b) (key-one (p .key) (q .key))
 
 module _ (ps : List (Point ℕ ℕ)) (keys : All Keyed ps) where
-  -- A cell over the docket is a point that names it.
-  pub points-over : (k : ℕ) → any-over (map point-cell ps) k ≡ names ps k
-  points-over k = any-map-where point-cell (cell-over k) (λ p. eqb (p .key) k) ps (all-weaken _ _ (point-over k) ps keys)
+  -- A cell that has the docket is a point that names it.
+  pub points-name : (k : ℕ) → cells-name (map point-cell ps) k ≡ names ps k
+  points-name k =
+      any-map-where point-cell (λ c. eqb (cell-lo c) k) (λ p. eqb (p .key) k) ps
+      (all-weaken Keyed _ (λ p low. ap (λ (n : ℕ). eqb n k) (point-lo p low)) ps keys)
 
   pub points-ordered : Ascending point-before ps → CellsOrdered (map point-cell ps)
   points-ordered a = record {

@@ -8,9 +8,9 @@ use Rattle.lists.specs.All.{All, Ascending}
 use Rattle.lists.proofs.Bools.{cond-ap, cond-elim}
 use Rattle.lists.proofs.Tests.{all-map, all-weaken}
 use Rattle.model.specs.Records.{Range}
-use Rattle.model.specs.Merge.{covers, covered, range-before, same-range, range-goes, later}
+use Rattle.model.specs.Merge.{range-covers, covered, range-before, same-range, range-goes, later}
 use Rattle.tables.specs.Placed.{range-cell, head}
-use Rattle.chain_cells.specs.Cells.{cell-lo, cell-hi, cell-before, cell-over, any-over}
+use Rattle.chain_cells.specs.Cells.{cell-lo, cell-hi, cell-before, cell-covers, cells-cover}
 use Rattle.chain_cells.specs.Order.{CellsOrdered}
 use Rattle.merge_unite.specs.Uniting.{same-span, doubled, later-cell}
 use Rattle.merge_join.proofs.Maps.{any-map-where, map-map-where, merge-map-where, map-ascending-where}
@@ -26,8 +26,8 @@ range-lo r s = span-lo (r .lo) (r .hi) (omega (arith, s .0, s .1))
 range-hi : (r : Range ℕ) → Spanned r → cell-hi (range-cell r) ≡ r .hi
 range-hi r s = span-hi (r .lo) (r .hi) (omega (arith, s .0, s .1))
 
-range-over : (k : ℕ) (r : Range ℕ) → Spanned r → cell-over k (range-cell r) ≡ covers r k
-range-over k r s = rw (range-lo r s, range-hi r s)
+cell-covers-range : (k : ℕ) (r : Range ℕ) → Spanned r → cell-covers (range-cell r) k ≡ range-covers r k
+cell-covers-range k r s = rw (range-lo r s, range-hi r s)
 
 cells-before : (r q : Range ℕ) → Spanned r → Spanned q → cell-before (range-cell r) (range-cell q) ≡ range-before r q
 cells-before r q s t = rw (range-lo r s, range-hi r s, range-lo q t, range-hi q t) (key-before (r .lo) (r .hi) (q .lo) (q .hi) (s .1) (t .1))
@@ -36,9 +36,9 @@ cells-same : (r q : Range ℕ) → Spanned r → Spanned q → same-span (range-
 cells-same r q s t = span-equal (r .lo) (r .hi) (q .lo) (q .hi) (omega (arith, s .0, s .1)) (omega (arith, t .0, t .1))
 
 module _ (rs : List (Range ℕ)) (spans : All Spanned rs) where
-  -- A cell over the docket is a range that covers it.
-  pub ranges-over : (k : ℕ) → any-over (map range-cell rs) k ≡ covered rs k
-  ranges-over k = any-map-where range-cell (cell-over k) (λ r. covers r k) rs (all-weaken _ _ (range-over k) rs spans)
+  -- A cell that covers the docket is a range that covers it.
+  pub ranges-cover : (k : ℕ) → cells-cover (map range-cell rs) k ≡ covered rs k
+  ranges-cover k = any-map-where range-cell (λ c. cell-covers c k) (λ r. range-covers r k) rs (all-weaken _ _ (cell-covers-range k) rs spans)
 
   pub ranges-ordered : Ascending range-before rs → CellsOrdered (map range-cell rs)
   ranges-ordered a = record {

@@ -4,9 +4,8 @@ use mathlib.Core.Bool.{true, false, _&&_, _||_}
 use Prim.Native.Nat.{ℕ, _+_, _*_, _/_, _%_, _<_, _≤_}
 use native.Mathlib.Omega.{arith}
 use native.Mathlib.Decide.{ℕ-discrete, decLt}
-use lib.Dec.{eqb, leb, ltb}
-use borrow.Author.Tests.{leb-true, le-leb, eqb-true, eq-eqb, ne-eqb, lt-ltb, le-ltb}
-use Rattle.settings.specs.Limits.{within}
+use lib.Dec.{eqb, ltb}
+use borrow.Author.Tests.{eqb-true, eq-eqb, ne-eqb, lt-ltb, le-ltb}
 use Rattle.lists.proofs.Bools.{and-left, and-right, and-intro, bool-ext}
 
 module _ (lo hi : ℕ) (low : lo ≤ 65535) where
@@ -15,12 +14,6 @@ module _ (lo hi : ℕ) (low : lo ≤ 65535) where
 
   pub span-hi : (lo + 65536 * hi) / 65536 ≡ hi
   span-hi = omega arith
-
--- From a docket to itself is that docket alone.
-pub within-one : (key k : ℕ) → within key k key ≡ eqb key k
-within-one key k = bool-ext (within key k key) (eqb key k)
-    (λ h. eq-eqb key k (omega (arith, leb-true key k (and-left (leb key k) (leb k key) h), leb-true k key (and-right (leb key k) (leb k key) h))))
-    (λ h. let e = eqb-true key k h in and-intro (leb key k) (leb k key) (le-leb key k (omega arith)) (le-leb k key (omega arith)))
 
 -- The key that orders cells: lo above, hi below.
 abbrev key : ℕ → ℕ → ℕ

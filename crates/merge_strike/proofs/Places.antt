@@ -1,32 +1,58 @@
--- A chain that a table holds, read as words: that it can be walked in order, and which dockets it is over.
+-- A chain that a table holds, read as words: that it can be walked in order, and what it says of a docket.
 use mathlib.Core.Path.{_≡_, refl, sym, ap, _∙_}
-use mathlib.Core.Bool.{true}
+use mathlib.Core.Bool.{Bool, true}
 use mathlib.Core.List.{List, [], _∷_, _++_, map}
 use Prim.Native.Nat.{ℕ, _+_, _*_, _≤_}
 use native.Mathlib.Omega.{arith}
 use borrow.Author.Tests.{le-leb, ltb-true}
-use lib.Dec.{leb, ltb}
+use lib.Dec.{leb, ltb, eqb}
 use lib.ListN.{length}
 use Rattle.lists.specs.All.{All, Ascending}
 use Rattle.lists.proofs.Bools.{and-intro}
 use Rattle.lists.proofs.Tests.{any-map, all-every}
-use Rattle.model.specs.Merge.{covers}
-use Rattle.tables.specs.Slots.{entry-length}
+use Rattle.model.specs.Merge.{range-covers}
+use Rattle.tables.specs.Slots.{entry-length, lo-of, hi-of}
 use Rattle.tables.specs.Sound.{chain-from, ascend, order-key}
-use Rattle.tables.specs.Placed.{Cell, head, read-range}
+use Rattle.tables.specs.Placed.{Cell, head, read-point, read-range}
 use Rattle.tables.proofs.Cells.{Chained, cell-slots}
 use Rattle.tables.proofs.Reading.{next-at}
-use Rattle.chain_cells.specs.Cells.{cell-at, cell-key, cell-before, cell-over, any-over}
+use Rattle.chain_cells.specs.Cells.{cell-at, cell-lo, cell-key, cell-before, cell-covers, cells-cover, cells-name}
 use Rattle.chain_cells.specs.Order.{CellsOrdered}
 use Rattle.chain_cells.specs.Held.{Held}
 use Rattle.chain_cells.proofs.Frames.{chain-end}
 use Rattle.chain_cells.proofs.Reading.{place-chain, place-cells}
 use Rattle.chain_cover.specs.Walks.{Walkable, Ordered}
-use Rattle.chain_cover.proofs.Walks.{slots-say, ranges-say}
+use Rattle.chain_cover.specs.Skips.{first-slot, from-bound}
+use Rattle.chain_cover.proofs.Walks.{slots-say, slots-name}
+use Rattle.chain_cover.proofs.Skips.{skip-says, seek-names}
 
--- The cells at some slots are over what the ranges read there are over.
-pub slots-over : (e ss : List ℕ) (k : ℕ) → slots-say e ss k ≡ any-over (map (cell-at e) ss) k
-slots-over e ss k = any-map (read-range e) (λ r. covers r k) ss ∙ sym (any-map (cell-at e) (cell-over k) ss)
+-- What is asked of a docket, of cells and of the words at their slots; a record whose bound is before the docket says nothing of it.
+pub record Question : Type 0 where
+  pub bound : List ℕ → ℕ → ℕ
+  pub says : List Cell → ℕ → Bool
+  pub tells : List ℕ → List ℕ → ℕ → Bool
+  pub alike : (e ss : List ℕ) (k : ℕ) → tells e ss k ≡ says (map (cell-at e) ss) k
+  pub passes : (e : List ℕ) (h k : ℕ) → Ordered e h → (r : ℕ) → r ≡ first-slot (from-bound (bound e) k (chain-from e h))
+      → (j : ℕ) → k ≤ j → tells e (chain-from e h) j ≡ tells e (chain-from e r) j
+
+-- Whether a point has the docket, and whether a range covers it.
+abbrev pub naming : Question
+naming = record {
+  bound = lo-of;
+  says = cells-name;
+  tells = slots-name;
+  alike = λ e ss k. any-map (read-point e) (λ p. eqb (p .key) k) ss ∙ sym (any-map (cell-at e) (λ c. eqb (cell-lo c) k) ss);
+  passes = seek-names;
+}
+
+abbrev pub covering : Question
+covering = record {
+  bound = hi-of;
+  says = cells-cover;
+  tells = slots-say;
+  alike = λ e ss k. any-map (read-range e) (λ r. range-covers r k) ss ∙ sym (any-map (cell-at e) (λ c. cell-covers c k) ss);
+  passes = skip-says;
+}
 
 above : (e : List ℕ) (k : ℕ) (ss : List ℕ) → All (λ d. ltb k (cell-key d) ≡ true) (map (cell-at e) ss) → All (λ s. k + 1 ≤ order-key e s) ss
 above e k [] a = tt
@@ -53,8 +79,8 @@ module _ {n clock : ℕ} {free : List ℕ} {others : List (List Cell)} {e : List
   cells : map (cell-at e) slots ≡ left
   cells = place-cells n clock free done left others e h
 
-  pub place-over : (k : ℕ) → ranges-say e (head left) k ≡ any-over left k
-  place-over k = slots-over e slots k ∙ ap (λ (cs : List Cell). any-over cs k) cells
+  pub place-says : (q : Question) (k : ℕ) → q .tells e slots k ≡ q .says left k
+  place-says q k = q .alike e slots k ∙ ap (λ (cs : List Cell). q .says cs k) cells
 
   pub place-ordered : CellsOrdered left → Ordered e (head left)
   place-ordered o = record {

@@ -1,16 +1,16 @@
 -- What each step of striking leaves, its beginning and its end.
 use mathlib.Core.Path.{_≡_, refl, sym, ap, subst, _∙_}
 use mathlib.Core.Logic.{_≢_}
-use mathlib.Core.Bool.{Bool, true, false}
+use mathlib.Core.Bool.{Bool, true}
 use mathlib.Core.List.{List, [], _∷_, _++_}
 use Prim.Native.Nat.{ℕ, _<_, _≤_}
 use native.Mathlib.Omega.{arith}
 use borrow.Author.Tests.{ltb-true}
 use Rattle.lists.specs.All.{All}
-use Rattle.tables.specs.Slots.{InTable, lo-of}
+use Rattle.tables.specs.Slots.{InTable, lo-of, hi-of}
 use Rattle.tables.specs.Sound.{chain-from}
 use Rattle.tables.specs.Placed.{Cell, head}
-use Rattle.chain_cells.specs.Cells.{cell-at, cell-lo, cell-hi, cell-key, cell-before, any-over}
+use Rattle.chain_cells.specs.Cells.{cell-at, cell-lo, cell-hi, cell-key, cell-before}
 use Rattle.chain_cells.specs.Held.{Held}
 use Rattle.chain_cells.specs.Order.{CellsOrdered}
 use Rattle.chain_cells.specs.Sifting.{Sift, Sifting, Sifts, sift-of}
@@ -19,12 +19,12 @@ use Rattle.chain_cells.proofs.Laws.{swapped, third-first}
 use Rattle.chain_cells.proofs.Reading.{place-in-table}
 use Rattle.chain_cells.proofs.Sieves.{left-after, cursor-cell, sifting-begins, sifting-ends}
 use Rattle.chain_cover.specs.Walks.{Ordered}
-use Rattle.chain_cover.specs.Skips.{first-slot, reaching}
-use Rattle.chain_cover.proofs.Walks.{ranges-say}
+use Rattle.chain_cover.specs.Skips.{first-slot, beginning, reaching, Ahead}
 use Rattle.merge_strike.specs.declared.Progress.{Progress}
-use Rattle.merge_strike.specs.Striking.{goes-under, Meeting, MeetingHeld, lower-chain, Struck, Strike, sift-under, Standing, Striking, left-of}
+use Rattle.merge_strike.specs.Striking.{goes-under, Meeting, MeetingHeld, lower-chain, Struck, Strike, sift-under, Standing, Striking, left-of, struck-by}
+use Rattle.merge_strike.proofs.Places.{Question, naming, covering}
 use Rattle.merge_strike.proofs.Suffixes.{Suffix, drop-suffix, suffix-ordered}
-use Rattle.merge_strike.proofs.Standings.{standing-begins, standing-left, rest-over, rest-ordered, standing-skips}
+use Rattle.merge_strike.proofs.Standings.{standing-begins, standing-left, rest-says, rest-ordered, standing-ahead, standing-skips}
 
 -- No later cell has an earlier docket.
 lows : (c : Cell) (cs : List Cell) → All (λ d. cell-before c d ≡ true) cs → All (λ d. cell-hi d ≤ 65535) cs → All (λ d. cell-lo c ≤ cell-lo d) cs
@@ -66,22 +66,28 @@ module _ (g : Strike) (e : List ℕ) (m : Progress) (w : Striking g e m) where
   lower-in-table = omega (arith, w .sifting .here .at-is, place-in-table _ _ _ (w .sifting .done) (w .sifting .left) _ e (w .sifting .here .held))
 
   pub points-walk : Ordered e (m .points)
-  points-walk = rest-ordered points-held (w .points-at) (w .points-ordered)
+  points-walk = rest-ordered naming points-held (w .points-at) (w .points-ordered)
 
   pub ranges-walk : Ordered e (m .ranges)
-  ranges-walk = rest-ordered ranges-held (w .ranges-at) (w .ranges-ordered)
+  ranges-walk = rest-ordered covering ranges-held (w .ranges-at) (w .ranges-ordered)
 
-  -- What ends before the lower point at the cursor is passed in both upper chains.
-  striking-skips : (p r : ℕ) → p ≡ first-slot (reaching e key (chain-from e (m .points))) → r ≡ first-slot (reaching e key (chain-from e (m .ranges)))
-      → Striking g e (record { points = p; ranges = r; cursor = m .cursor })
-  striking-skips p r p≡ r≡ = record {
-    sifting = w .sifting;
-    lower-ordered = w .lower-ordered;
-    points-ordered = w .points-ordered;
-    ranges-ordered = w .ranges-ordered;
-    points-at = standing-skips points-held (w .points-at) (w .points-ordered) key p p≡ key-least;
-    ranges-at = standing-skips ranges-held (w .ranges-at) (w .ranges-ordered) key r r≡ key-least;
-  }
+  -- What lies or ends before the lower point at the cursor is passed in both upper chains.
+  module _ (p r : ℕ) (p≡ : p ≡ first-slot (beginning e key (chain-from e (m .points)))) (r≡ : r ≡ first-slot (reaching e key (chain-from e (m .ranges)))) where
+    pub points-ahead : Ahead e (lo-of e) p key
+    points-ahead = standing-ahead naming points-held (w .points-at) (w .points-ordered) key p p≡
+
+    pub ranges-ahead : Ahead e (hi-of e) r key
+    ranges-ahead = standing-ahead covering ranges-held (w .ranges-at) (w .ranges-ordered) key r r≡
+
+    striking-skips : Striking g e (record { points = p; ranges = r; cursor = m .cursor })
+    striking-skips = record {
+      sifting = w .sifting;
+      lower-ordered = w .lower-ordered;
+      points-ordered = w .points-ordered;
+      ranges-ordered = w .ranges-ordered;
+      points-at = standing-skips naming points-held (w .points-at) (w .points-ordered) key p p≡ key-least;
+      ranges-at = standing-skips covering ranges-held (w .ranges-at) (w .ranges-ordered) key r r≡ key-least;
+    }
 
   -- The lower point at the cursor has been seen.
   striking-sifts : (e′ : List ℕ) (c′ : Cursor) (goes : Bool) → Steps e (m .cursor) goes e′ c′ → goes ≡ goes-under (g .points) (g .ranges) (cell-at e (m .cursor .at))
@@ -94,55 +100,45 @@ module _ (g : Strike) (e : List ℕ) (m : Progress) (w : Striking g e m) where
           lower-ordered = suffix-ordered (s .0 .left) (w .sifting .left) rest (w .lower-ordered);
           points-ordered = w .points-ordered;
           ranges-ordered = w .ranges-ordered;
-          points-at = standing-left rest (w .points-at);
-          ranges-at = standing-left rest (w .ranges-at);
+          points-at = standing-left naming rest (w .points-at);
+          ranges-at = standing-left covering rest (w .ranges-at);
         },
         s .1,
       )
 
   module _ (nz : m .cursor .at ≢ 0) where
     -- What a rest says of the lower point at the cursor, the whole chain says.
-    told : {cells : List Cell} {at : ℕ} (st : Standing cells (w .sifting .left) at) → any-over (st .rest) key ≡ any-over cells key
-    told {cells} st = go (w .sifting .left) refl (st .says)
+    told : (q : Question) {cells : List Cell} {at : ℕ} (st : Standing (q .says) cells (w .sifting .left) at) → q .says (st .rest) key ≡ q .says cells key
+    told q {cells} st = go (w .sifting .left) refl (st .same)
       where
-        go : (left : List Cell) → w .sifting .left ≡ left → All (λ c. any-over (st .rest) (cell-lo c) ≡ any-over cells (cell-lo c)) left → any-over (st .rest) key ≡ any-over cells key
+        Told : ℕ → Type 0
+        Told k = q .says (st .rest) k ≡ q .says cells k
+
+        go : (left : List Cell) → w .sifting .left ≡ left → All (λ c. Told (cell-lo c)) left → Told key
         go [] is a = absurd (nz (w .sifting .here .at-is ∙ ap head is))
-        go (c ∷ cs) is a = subst (λ (k : ℕ). any-over (st .rest) k ≡ any-over cells k) (sym (ap cell-lo (at-cursor c cs is))) (a .0)
+        go (c ∷ cs) is a = subst Told (sym (ap cell-lo (at-cursor c cs is))) (a .0)
 
-    points-tell : ranges-say e (m .points) key ≡ any-over (g .points) key
-    points-tell = rest-over points-held (w .points-at) key ∙ told (w .points-at)
-
-    ranges-tell : ranges-say e (m .ranges) key ≡ any-over (g .ranges) key
-    ranges-tell = rest-over ranges-held (w .ranges-at) key ∙ told (w .ranges-at)
-
-    goes-by-point : ranges-say e (m .points) key ≡ true → true ≡ goes-under (g .points) (g .ranges) (cell-at e (m .cursor .at))
-    goes-by-point q = rw (sym points-tell ∙ q)
-
-    goes-by-range : (goes : Bool) → ranges-say e (m .points) key ≡ false → goes ≡ ranges-say e (m .ranges) key → goes ≡ goes-under (g .points) (g .ranges) (cell-at e (m .cursor .at))
-    goes-by-range goes q r = rw (sym points-tell ∙ q) (r ∙ ranges-tell)
+    -- The upper chains from here on strike the lower point where the whole level does.
+    goes-here : struck-by e (m .points) (m .ranges) key ≡ goes-under (g .points) (g .ranges) (cell-at e (m .cursor .at))
+    goes-here =
+        rw (rest-says naming points-held (w .points-at) key ∙ told naming (w .points-at))
+        (rw (rest-says covering ranges-held (w .ranges-at) key ∙ told covering (w .ranges-at)))
 
 -- A whole step: the lower point's docket is k, and p and r are where the upper chains reach it.
 module _ (g : Strike) (e : List ℕ) (m : Progress) (w : Striking g e m) (k p r : ℕ) (k≡ : k ≡ lo-of e (m .cursor .at))
-    (p≡ : p ≡ first-slot (reaching e k (chain-from e (m .points)))) (r≡ : r ≡ first-slot (reaching e k (chain-from e (m .ranges)))) where
-  abbrev on : Progress
-  on = record { points = p; ranges = r; cursor = m .cursor }
+    (p≡ : p ≡ first-slot (beginning e k (chain-from e (m .points)))) (r≡ : r ≡ first-slot (reaching e k (chain-from e (m .ranges)))) where
+  pub points-asked : Ahead e (lo-of e) p k
+  points-asked = rw k≡ (points-ahead g e m w p r (rw (← k≡) p≡) (rw (← k≡) r≡))
 
-  skipped : Striking g e on
-  skipped = striking-skips g e m w p r (rw (← k≡) p≡) (rw (← k≡) r≡)
+  pub ranges-asked : Ahead e (hi-of e) r k
+  ranges-asked = rw k≡ (ranges-ahead g e m w p r (rw (← k≡) p≡) (rw (← k≡) r≡))
 
-  pub points-walk-on : Ordered e p
-  points-walk-on = points-walk g e on skipped
-
-  pub ranges-walk-on : Ordered e r
-  ranges-walk-on = ranges-walk g e on skipped
-
-  module _ (nz : m .cursor .at ≢ 0) (e′ : List ℕ) (c′ : Cursor) where
-    pub struck-by-point : ranges-say e p k ≡ true → Steps e (m .cursor) true e′ c′ → Strikes g e m e′ (record { points = p; ranges = r; cursor = c′ })
-    struck-by-point q steps = striking-sifts g e on skipped e′ c′ true steps (goes-by-point g e on skipped nz (rw (← k≡) q))
-
-    pub struck-by-range : (goes : Bool) → ranges-say e p k ≡ false → goes ≡ ranges-say e r k → Steps e (m .cursor) goes e′ c′
-        → Strikes g e m e′ (record { points = p; ranges = r; cursor = c′ })
-    struck-by-range goes q by steps = striking-sifts g e on skipped e′ c′ goes steps (goes-by-range g e on skipped nz goes (rw (← k≡) q) (rw (← k≡) by))
+  pub strikes : m .cursor .at ≢ 0 → (e′ : List ℕ) (c′ : Cursor) (goes : Bool) → goes ≡ struck-by e p r k → Steps e (m .cursor) goes e′ c′
+      → Strikes g e m e′ (record { points = p; ranges = r; cursor = c′ })
+  strikes nz e′ c′ goes q steps =
+      let on : Progress = record { points = p; ranges = r; cursor = m .cursor } in
+      let skipped : Striking g e on = striking-skips g e m w p r (rw (← k≡) p≡) (rw (← k≡) r≡) in
+      striking-sifts g e on skipped e′ c′ goes steps (q ∙ rw k≡ (goes-here g e on skipped nz))
 
 -- What striking is to do where these chains meet.
 abbrev pub strike-of : Meeting → Strike
@@ -158,8 +154,8 @@ module _ (g : Meeting) (e : List ℕ) where
     lower-ordered = h .lower-ordered;
     points-ordered = h .points-ordered;
     ranges-ordered = h .ranges-ordered;
-    points-at = standing-begins (h .points-is);
-    ranges-at = standing-begins (h .ranges-is);
+    points-at = standing-begins naming (h .points-is);
+    ranges-at = standing-begins covering (h .ranges-is);
   }
 
   pub striking-ends : (m : Progress) → Striking (strike-of g) e m → m .cursor .at ≡ 0 → Struck g e (m .cursor)

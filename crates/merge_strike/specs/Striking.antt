@@ -1,11 +1,13 @@
 -- Lower points held against an upper level's points and ranges.
 use mathlib.Core.Path.{_≡_}
 use mathlib.Core.Bool.{Bool, _||_}
-use mathlib.Core.List.{List, _∷_, _++_}
+use mathlib.Core.List.{List, _∷_, _++_, map}
 use Prim.Native.Nat.{ℕ}
 use Rattle.lists.specs.All.{All}
-use Rattle.tables.specs.Placed.{Cell, head}
-use Rattle.chain_cells.specs.Cells.{cell-lo, any-over}
+use Rattle.model.specs.Merge.{covered, names}
+use Rattle.tables.specs.Sound.{chain-from}
+use Rattle.tables.specs.Placed.{Cell, head, read-point, read-range}
+use Rattle.chain_cells.specs.Cells.{cell-lo, cells-cover, cells-name}
 use Rattle.chain_cells.specs.Held.{Held}
 use Rattle.chain_cells.specs.Sifting.{Sift, Sifting, Chain, Sifted, left-at}
 use Rattle.chain_cells.specs.Order.{CellsOrdered}
@@ -14,7 +16,11 @@ use Rattle.merge_strike.specs.declared.Progress.{Progress}
 
 -- "A point of i+1 goes if i has a point of that docket or a range over it."
 abbrev pub goes-under : List Cell → List Cell → Cell → Bool
-goes-under points ranges c = any-over points (cell-lo c) || any-over ranges (cell-lo c)
+goes-under points ranges c = cells-name points (cell-lo c) || cells-cover ranges (cell-lo c)
+
+-- The same of docket k and of the upper chains from two slots on.
+abbrev pub struck-by : List ℕ → ℕ → ℕ → ℕ → Bool
+struck-by e points ranges k = names (map (read-point e) (chain-from e points)) k || covered (map (read-range e) (chain-from e ranges)) k
 
 -- The lower points, the upper points and ranges that they meet, and all that is beside them.
 pub record Meeting : Type 0 where
@@ -63,21 +69,21 @@ sift-under g = record {
   others = g .points ∷ g .ranges ∷ g .others;
 }
 
--- A slot stands where the rest of an upper chain begins, which is over the docket of a lower point that is left just where the whole chain is.
-pub record Standing (cells lower : List Cell) (at : ℕ) : Type 0 where
+-- A slot stands where the rest of an upper chain begins, which says of the docket of each lower point that is left what the whole chain says.
+pub record Standing (says : List Cell → ℕ → Bool) (cells lower : List Cell) (at : ℕ) : Type 0 where
   pub passed : List Cell
   pub rest : List Cell
   pub whole : passed ++ rest ≡ cells
   pub at-is : at ≡ head rest
-  pub says : All (λ c. any-over rest (cell-lo c) ≡ any-over cells (cell-lo c)) lower
+  pub same : All (λ c. says rest (cell-lo c) ≡ says cells (cell-lo c)) lower
 
 pub record Striking (g : Strike) (e : List ℕ) (m : Progress) : Type 0 where
   pub sifting : Sifting (sift-under g) e (m .cursor)
   pub lower-ordered : CellsOrdered (sifting .left)
   pub points-ordered : CellsOrdered (g .points)
   pub ranges-ordered : CellsOrdered (g .ranges)
-  pub points-at : Standing (g .points) (sifting .left) (m .points)
-  pub ranges-at : Standing (g .ranges) (sifting .left) (m .ranges)
+  pub points-at : Standing cells-name (g .points) (sifting .left) (m .points)
+  pub ranges-at : Standing cells-cover (g .ranges) (sifting .left) (m .ranges)
 
 -- How many lower points have still to be seen.
 abbrev pub left-of : List ℕ → Progress → ℕ

@@ -1,13 +1,18 @@
-// The points of a level that go because the level above has a point or a range over their docket.
+// The points of a level that go because the level above has a point of their docket or a range over it.
 use chain_cells::Cursor;
 use chain_cells::sift;
-use chain_cover::is_covered;
+use chain_cover::first_covers;
+use chain_cover::first_names;
+use chain_cover::seek;
 use chain_cover::skip;
 use table_slots::lo_of;
+ghost use mathlib.Core.Path.{_≡_};
 ghost use mathlib.Core.Logic.{_≢_};
 ghost use Prim.Native.Nat.{_<_};
 ghost use Rattle.lists.specs.All.{Exists};
-ghost use Rattle.merge_strike.specs.Striking.{Meeting, MeetingHeld, Strike, Striking, Struck, left-of};
+ghost use Rattle.chain_cover.specs.Skips.{Ahead};
+ghost use Rattle.merge_strike.specs.Striking.{Meeting, MeetingHeld, Strike, Striking, Struck, left-of, struck-by};
+ghost use Rattle.tables.specs.Slots.{lo-of, hi-of};
 
 // What is left to look at of the upper points and ranges, and a cursor in the lower points.
 struct Progress {
@@ -44,20 +49,25 @@ fn strike_step(e: &mut [u32], m: Progress) -> Progress
     ensures { λ r. ⌜ ((g : Strike) → Striking g (now (e .entry)) m → Striking g (now (e .exit)) r × (left-of (now (e .exit)) r < left-of (now (e .entry)) m)) ⌝ }
 {
     let key = lo_of(e, m.cursor.at);
-    // Lower points ascend, so what ends before this one is over no later one.
-    let points = skip(e, m.points, key);
+    // Lower points ascend, so what lies or ends before this one decides of no later one: each upper record is passed once.
+    let points = seek(e, m.points, key);
     let ranges = skip(e, m.ranges, key);
-    if is_covered(e, points, key) {
-        return Progress {
-            points: points,
-            ranges: ranges,
-            cursor: sift(e, m.cursor, true),
-        };
-    }
-    let goes = is_covered(e, ranges, key);
+    let goes = is_struck(e, points, ranges, key);
     Progress {
         points: points,
         ranges: ranges,
         cursor: sift(e, m.cursor, goes),
     }
+}
+
+// Whether the upper level has a point of the docket or a range over it, where what lies or ends before it is passed.
+fn is_struck(e: &[u32], points: usize, ranges: usize, docket: u32) -> bool
+    requires { ⌜ Ahead (now e) (lo-of (now e)) points docket ⌝ }
+    requires { ⌜ Ahead (now e) (hi-of (now e)) ranges docket ⌝ }
+    ensures { λ r. ⌜ r ≡ struck-by (now (e .entry)) points ranges docket ⌝ }
+{
+    if first_names(e, points, docket) {
+        return true;
+    }
+    first_covers(e, ranges, docket)
 }

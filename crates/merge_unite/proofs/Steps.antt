@@ -21,8 +21,7 @@ use Rattle.merge_unite.specs.Uniting.{doubled, later-cell, lower-chain, 
 use Rattle.merge_unite.specs.declared.Progress.{Progress}
 use Rattle.merge_unite.proofs.Spans.{before-trans}
 use Rattle.merge_unite.proofs.Stamps.{Apart, doubled-apart, later-apart}
-use Rattle.merge_unite.proofs.Places.{First, lower-first, lower-cell, left-ordered, passed-before, passed-apart}
-use Rattle.merge_unite.proofs.Places.{upper-first, upper-length, upper-cell, upper-next, upper-none}
+use Rattle.merge_unite.proofs.Places.{First, lower-first, lower-cell, left-ordered, passed-before, passed-apart, upper-first, upper-length, upper-cell, upper-next, upper-none}
 
 -- One step, which leaves less to see.
 abbrev pub Unites : Chains → List ℕ → Progress → List ℕ → Progress → Type 0

@@ -1,5 +1,5 @@
 -- The call of a delete, and all calls after it: once its term has passed, no mark of what it covered is left.
-use mathlib.Core.Path.{_≡_, refl, ap, _∙_}
+use mathlib.Core.Path.{_≡_, refl, sym, ap, _∙_}
 use mathlib.Core.Bool.{true, false, _||_, false≢true}
 use mathlib.Core.List.{List, [], _∷_}
 use Prim.Native.Nat.{ℕ, _<_}
@@ -14,9 +14,10 @@ use Rattle.lists.proofs.Bools.{cond-elim, by-cases, or-false-left, or-second}
 use Rattle.lists.proofs.Tests.{all-append, all-replicate, all-get}
 use Rattle.model.specs.Records.{Level, State, empty, level}
 use Rattle.model.specs.Merge.{merged, settled}
-use Rattle.model.specs.Steps.{deletes, Work, Write, put, delete, delete-range, single, unplaced, merge-all, crowded, make-room, full, write}
+use Rattle.model.specs.Steps.{write-covers, Work, Write, put, delete, delete-range, single, unplaced, merge-all, crowded, make-room, full, write}
 use Rattle.model.specs.Calls.{written, Call, prepared, step, run}
 use Rattle.model.specs.Erasure.{accepted, pass-merges, merged-in}
+use Rattle.model.proofs.Coverage.{covers-one}
 use Rattle.model.proofs.Keeps.{Kept, merge-all-keeps, pass-keeps, has-room}
 use Rattle.model.proofs.StepView.{worked, accepted-outcome, Accepted, accepted-ends}
 use Rattle.model.proofs.Deepest.{only-set, Drained, merge-all-drained}
@@ -27,28 +28,28 @@ use Rattle.model.proofs.MarkedSteps.{QuietWrite, Quiet, KeyedCall, quie
 use Rattle.model.proofs.Erasing.{Fated, pass-fated, clean-fated, merged-below, step-no-mark, run-fated, run-merged}
 
 module _ {A : Type 0} where
-  -- What deletes carries no mark.
-  delete-quiet : (k : ℕ) (w : Write (Mark A)) → deletes w k ≡ true → QuietWrite w
+  -- What covers a docket carries no mark.
+  delete-quiet : (k : ℕ) (w : Write (Mark A)) → write-covers w k ≡ true → QuietWrite w
   delete-quiet k (put n m) h = absurd (false≢true h)
   delete-quiet k (delete n) h = tt
   delete-quiet k (delete-range lo hi) h = tt
 
 module _ {S A : Type 0} where
-  reaches-single : (x : S) (t : ℕ) (k : ℕ) (w : Write (Mark A)) → deletes w k ≡ true → reaches (single x t w) k ≡ true
+  reaches-single : (x : S) (t : ℕ) (k : ℕ) (w : Write (Mark A)) → write-covers w k ≡ true → reaches (single x t w) k ≡ true
   unfolding single any
   reaches-single x t k (put n m) h = absurd (false≢true h)
-  reaches-single x t k (delete n) h = rw h
+  reaches-single x t k (delete n) h = rw (sym (covers-one n k) ∙ h)
   reaches-single x t k (delete-range lo hi) h = rw h
 
 module _ {S A : Type 0} where
-  single-front : (x : S) (t : ℕ) (k : ℕ) (w : Write (Mark A)) → 0 < t → deletes w k ≡ true → Front k t (single x t w)
+  single-front : (x : S) (t : ℕ) (k : ℕ) (w : Write (Mark A)) → 0 < t → write-covers w k ≡ true → Front k t (single x t w)
   unfolding single
   single-front x t k (put n m) p h = absurd (false≢true h)
   single-front x t k (delete n) p h = record { clean = (refl, tt); reach = reaches-single x t k (delete n) h; owes = (p, omega arith) }
   single-front x t k (delete-range lo hi) p h = record { clean = tt; reach = reaches-single x t k (delete-range lo hi) h; owes = (p, omega arith) }
 
   -- On level L it wipes every mark of its docket.
-  acted-erases : (t k : ℕ) (w : Write (Mark A)) (l : Level S (Mark A)) → deletes w k ≡ true → KeyedLevel k l → All Clean (acted t w (l .points))
+  acted-erases : (t k : ℕ) (w : Write (Mark A)) (l : Level S (Mark A)) → write-covers w k ≡ true → KeyedLevel k l → All Clean (acted t w (l .points))
   acted-erases t k (put n m) l h a = absurd (false≢true h)
   acted-erases t k (delete n) l h a = staying-clean k (unplaced t (delete n)) (l .points) (reaches-single {S = Unit {0}} tt t k (delete n) h) a
   acted-erases t k (delete-range lo hi) l h a = staying-clean k (unplaced t (delete-range lo hi)) (l .points) (reaches-single {S = Unit {0}} tt t k (delete-range lo hi) h) a
@@ -57,7 +58,7 @@ module _ {S A : Type 0} where
   entered-front k d w [] h f a = absurd (omega arith)
   entered-front k d w (b ∷ ls) h f a = front (front-down k d w b f (a .0)) (a .1)
 
-module _ {S A : Type 0} (k : ℕ) (s : State S (Mark A)) (c : Call (Mark A)) (w : Write (Mark A)) (is : c .op ≡ written w) (covers : deletes w k ≡ true)
+module _ {S A : Type 0} (k : ℕ) (s : State S (Mark A)) (c : Call (Mark A)) (w : Write (Mark A)) (is : c .op ≡ written w) (covers : write-covers w k ≡ true)
     (marks : MarksOf k s) (acc : accepted s c ≡ true) where
   ends : Accepted s c
   ends = accepted-ends s c acc

@@ -1,4 +1,5 @@
 -- The claims of document 01, and the laws that they stand on.
+pub mod Coverage
 pub mod Cases
 pub mod NaturalMerge
 pub mod NaturalSteps

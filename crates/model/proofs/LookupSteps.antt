@@ -8,14 +8,15 @@ use lib.Dec.{eqb}
 use lib.ListN.{length, getD, set}
 use borrow.Author.Tests.{eqb-true, eqb-false, eq-eqb, ne-eqb, not-false}
 use Rattle.settings.specs.declared.Settings.{Settings}
-use Rattle.settings.specs.Limits.{within}
 use Rattle.lists.specs.Lists.{none, any}
 use Rattle.lists.proofs.Bools.{cond-elim, cond-same, by-cases, and-left, and-second-false, or-false}
 use Rattle.model.specs.Records.{Point, Level, State, empty, level}
+use Rattle.model.specs.Coverage.{covers}
 use Rattle.model.specs.Merge.{covered, names, release, merged, settled}
-use Rattle.model.specs.Steps.{deletes, Work, Write, put, delete, delete-range, single, unplaced, begin, merge-state, merge-level, merge-all, displaced, enter-at, enter, overwrite, set-points, wipe, act-deepest, crowded, make-room, full, write, no-slot, pass}
+use Rattle.model.specs.Steps.{write-covers, Work, Write, put, delete, delete-range, single, unplaced, begin, merge-state, merge-level, merge-all, displaced, enter-at, enter, overwrite, set-points, wipe, act-deepest, crowded, make-room, full, write, no-slot, pass}
 use Rattle.model.specs.Lookup.{Found, absent, found, find, lookup}
 use Rattle.model.specs.Calls.{Op, written, flush, tick, prepared, out-of-slots}
+use Rattle.model.proofs.Coverage.{covers-one}
 use Rattle.model.proofs.Keeps.{merge-all-keeps, pass-keeps, has-room}
 use Rattle.model.proofs.Form.{Formed, formed-kept}
 use Rattle.model.proofs.Lookups.{find-select, lookup-merged, lookup-merge}
@@ -25,8 +26,8 @@ module _ {A : Type 0} where
   -- The answers after a write, by the answers before it.
   abbrev pub after : ℕ → Write A → (ℕ → Found A) → ℕ → Found A
   after t (put n a) look k = cond (eqb n k) (found a t) (look k)
-  after t (delete n) look k = cond (deletes {A = A} (delete n) k) absent (look k)
-  after t (delete-range lo hi) look k = cond (deletes {A = A} (delete-range lo hi) k) absent (look k)
+  after t (delete n) look k = cond (write-covers {A = A} (delete n) k) absent (look k)
+  after t (delete-range lo hi) look k = cond (write-covers {A = A} (delete-range lo hi) k) absent (look k)
 
   abbrev pub after-op : ℕ → Op A → (ℕ → Found A) → ℕ → Found A
   after-op t (written w) look k = after t w look k
@@ -73,8 +74,8 @@ module _ {S A : Type 0} where
   lookup-single : (x : S) (t : ℕ) (w : Write A) (ls : List (Level S A)) (k : ℕ) → lookup (single x t w ∷ ls) k ≡ after t w (lookup ls) k
   unfolding lookup single find any
   lookup-single x t (put n a) ls k = refl
-  lookup-single x t (delete n) ls k = refl
-  lookup-single x t (delete-range lo hi) ls k = ap (λ b. cond b absent (lookup ls k)) (or-false (within lo k hi))
+  lookup-single x t (delete n) ls k = ap (λ b. cond b absent (lookup ls k)) (sym (covers-one n k))
+  lookup-single x t (delete-range lo hi) ls k = ap (λ b. cond b absent (lookup ls k)) (or-false (covers lo hi k))
 
   enter-at-lookup : (t : ℕ) (w : Write A) (s : State S A) (free : List S) (k : ℕ) → none free ≡ false → 0 < length (s .levels)
       → lookup (enter-at t w s free .levels) k ≡ after t w (lookup (s .levels)) k
@@ -146,12 +147,12 @@ module _ {S A : Type 0} where
         (by-cases (eqb j k)
         (λ e. find-overwritten j a t (l .points) k absent (eqb-true j k e) h ∙ rw e)
         (λ e. find-other j a t (l .points) k absent e ∙ rw e))
-    act-lookup t (delete j) k h = lookup-wipe (unplaced t (delete j)) k ∙ flip (eqb j k) (lookup (s .levels) k)
+    act-lookup t (delete j) k h = lookup-wipe (unplaced t (delete j)) k ∙ flip (eqb j k) (lookup (s .levels) k) ∙ ap (λ b. cond b absent (lookup (s .levels) k)) (sym (covers-one j k))
       where
         flip : (b : Bool) (v : Found A) → cond (not (b || false || false)) v absent ≡ cond b absent v
         flip true v = refl
         flip false v = refl
-    act-lookup t (delete-range lo hi) k h = lookup-wipe (unplaced t (delete-range lo hi)) k ∙ flip (within lo k hi) (lookup (s .levels) k)
+    act-lookup t (delete-range lo hi) k h = lookup-wipe (unplaced t (delete-range lo hi)) k ∙ flip (covers lo hi k) (lookup (s .levels) k)
       where
         flip : (b : Bool) (v : Found A) → cond (not (b || false)) v absent ≡ cond b absent v
         flip true v = refl

@@ -13,7 +13,7 @@ use Rattle.lists.proofs.Bools.{cond-ap, cond-elim, cond-same, by-cases, both-fa
 use Rattle.lists.proofs.Tests.{any-map, any-same, any-select}
 use Rattle.lists.proofs.Merges.{any-merge}
 use Rattle.model.specs.Records.{Entry, value, tombstone, Point, Range, Level, is-put, empty}
-use Rattle.model.specs.Merge.{covers, covered, range-before, names, point-before, same-range, range-goes, point-goes, later, merged, settled, joined}
+use Rattle.model.specs.Merge.{range-covers, covered, range-before, names, point-before, same-range, range-goes, point-goes, later, merged, settled, joined}
 use Rattle.model.specs.Lookup.{Found, absent, reads, find, lookup}
 use Rattle.model.proofs.Form.{Ordered, merged-ordered}
 
@@ -88,35 +88,35 @@ module _ {S A : Type 0} where
       lower false g ih = ih g
 
 module _ {S : Type 0} where
-  covers-same : (q r : Range S) (k : ℕ) → same-range q r ≡ true → covers q k ≡ covers r k
-  covers-same q r k h =
+  range-covers-same : (q r : Range S) (k : ℕ) → same-range q r ≡ true → range-covers q k ≡ range-covers r k
+  range-covers-same q r k h =
       let lo≡ : q .lo ≡ r .lo = eqb-true (q .lo) (r .lo) (and-left (eqb (q .lo) (r .lo)) (eqb (q .hi) (r .hi)) h) in
       let hi≡ : q .hi ≡ r .hi = eqb-true (q .hi) (r .hi) (and-right (eqb (q .lo) (r .lo)) (eqb (q .hi) (r .hi)) h) in
       rw (lo≡, hi≡)
 
-  covers-later : (qs : List (Range S)) (r : Range S) (k : ℕ) → covers (later qs r) k ≡ covers r k
+  range-covers-later : (qs : List (Range S)) (r : Range S) (k : ℕ) → range-covers (later qs r) k ≡ range-covers r k
   unfolding later
-  covers-later [] r k = refl
-  covers-later (q ∷ qs) r k = cond-elim (λ x. covers x k ≡ covers r k) (same-range q r) _ (later qs r) (λ g. refl) (λ g. covers-later qs r k)
+  range-covers-later [] r k = refl
+  range-covers-later (q ∷ qs) r k = cond-elim (λ x. range-covers x k ≡ range-covers r k) (same-range q r) _ (later qs r) (λ g. refl) (λ g. range-covers-later qs r k)
 
   covered-later : (qs rs : List (Range S)) (k : ℕ) → covered (map (later qs) rs) k ≡ covered rs k
-  covered-later qs rs k = any-map (later qs) (λ r. covers r k) rs ∙ any-same _ _ (λ r. covers-later qs r k) rs
+  covered-later qs rs k = any-map (later qs) (λ r. range-covers r k) rs ∙ any-same _ _ (λ r. range-covers-later qs r k) rs
 
   -- A range that is named covers only what is covered.
-  goes-covered : (rs : List (Range S)) (q : Range S) (k : ℕ) → range-goes rs q ≡ true → covers q k ≡ true → covered rs k ≡ true
+  goes-covered : (rs : List (Range S)) (q : Range S) (k : ℕ) → range-goes rs q ≡ true → range-covers q k ≡ true → covered rs k ≡ true
   unfolding any
   goes-covered [] q k g c = absurd (false≢true g)
   goes-covered (r ∷ rs) q k g c = by-cases (same-range r q)
-      (λ e. or-left (covers r k) (covered rs k) (covers-same r q k e ∙ c))
-      (λ e. or-right (covers r k) (covered rs k) (goes-covered rs q k (or-second (same-range r q) (range-goes rs q) g e) c))
+      (λ e. or-left (range-covers r k) (covered rs k) (range-covers-same r q k e ∙ c))
+      (λ e. or-right (range-covers r k) (covered rs k) (goes-covered rs q k (or-second (same-range r q) (range-goes rs q) g e) c))
 
   covered-staying : (rs qs : List (Range S)) (k : ℕ) → covered rs k || covered (reject (range-goes rs) qs) k ≡ covered rs k || covered qs k
   unfolding any select
   covered-staying rs [] k = refl
   covered-staying rs (q ∷ qs) k =
       cond-elim (λ l. covered rs k || covered l k ≡ covered rs k || covered (q ∷ qs) k) (not (range-goes rs q)) (q ∷ reject (range-goes rs) qs) (reject (range-goes rs) qs)
-      (λ g. kept (covered rs k) (covers q k) _ _ (covered-staying rs qs k))
-      (λ g. dropped (covered rs k) (covers q k) _ _ (goes-covered rs q k (not-false (range-goes rs q) g)) (covered-staying rs qs k))
+      (λ g. kept (covered rs k) (range-covers q k) _ _ (covered-staying rs qs k))
+      (λ g. dropped (covered rs k) (range-covers q k) _ _ (goes-covered rs q k (not-false (range-goes rs q) g)) (covered-staying rs qs k))
     where
       kept : (a c x y : Bool) → a || x ≡ a || y → a || (c || x) ≡ a || (c || y)
       kept true c x y h = refl
@@ -132,7 +132,7 @@ module _ {S A : Type 0} where
   pub covered-merged : (u l : Level S A) (k : ℕ) → covered (merged u l .ranges) k ≡ covered (u .ranges) k || covered (l .ranges) k
   unfolding merged
   covered-merged u l k =
-      any-merge range-before (λ r. covers r k) (map (later (l .ranges)) (u .ranges)) (reject (range-goes (u .ranges)) (l .ranges))
+      any-merge range-before (λ r. range-covers r k) (map (later (l .ranges)) (u .ranges)) (reject (range-goes (u .ranges)) (l .ranges))
       ∙ rw (covered-later (l .ranges) (u .ranges) k) (covered-staying (u .ranges) (l .ranges) k)
 
   unnamed-staying : (u : Level S A) (ps : List (Point S A)) (k : ℕ) → names (u .points) k ≡ true → names (reject (point-goes u) ps) k ≡ false

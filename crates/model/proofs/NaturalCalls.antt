@@ -9,7 +9,7 @@ use Rattle.lists.proofs.Bools.{cond-ap}
 use Rattle.settings.specs.declared.Settings.{Settings}
 use Rattle.model.specs.Records.{Entry, value, tombstone, Point, Level, State, empty, fresh, slotless}
 use Rattle.model.specs.Merge.{covered}
-use Rattle.model.specs.Steps.{deletes, Work, Write, put, delete, delete-range, begin, pass, merge-all, still-due}
+use Rattle.model.specs.Steps.{write-covers, Work, Write, put, delete, delete-range, begin, pass, merge-all, still-due}
 use Rattle.model.specs.Lookup.{Found, absent, reads, find, lookup}
 use Rattle.model.specs.Calls.{Op, written, flush, tick, Call, Outcome, bad-docket, bad-clock, count-written, prepared, out-of-slots, refused, finish, step, run, answers}
 use Rattle.model.specs.Erasure.{call-at, accepted, pass-merges, merges-before, merges-buffer, merged-in, before, merged-after, Erased}
@@ -137,10 +137,10 @@ module _ {S T A B : Type 0} (g : S → T) (f : A → B) where
   call-at-map : (cs : List (Call A)) (i : ℕ) → call-at (map (map-call f) cs) i ≡ map-call f (call-at cs i)
   call-at-map cs i = List·getD-map (map-call f) cs i (record { clock = 0; op = tick })
 
-  deletes-map : (w : Write A) (k : ℕ) → deletes (map-write f w) k ≡ deletes w k
-  deletes-map (put n a) k = refl
-  deletes-map (delete n) k = refl
-  deletes-map (delete-range lo hi) k = refl
+  write-covers-map : (w : Write A) (k : ℕ) → write-covers (map-write f w) k ≡ write-covers w k
+  write-covers-map (put n a) k = refl
+  write-covers-map (delete n) k = refl
+  write-covers-map (delete-range lo hi) k = refl
 
   before-map : (s : State S A) (cs : List (Call A)) (j : ℕ) → before (map-state g f s) (map (map-call f) cs) j ≡ map-state g f (before s cs j)
   before-map s cs j = rw (take-map j cs) (run-map s (take j cs))
@@ -168,7 +168,7 @@ module _ {S T A B : Type 0} (g : S → T) (f : A → B) where
         after = e .after;
         write = w;
         is-write = q;
-        covers = sym (deletes-map w k) ∙ ap (λ v. deletes v k) same ∙ e .covers;
+        covers = sym (write-covers-map w k) ∙ ap (λ v. write-covers v k) same ∙ e .covers;
         accept = sym (rw (before-map s cs j, call-at-map cs j) (accepted-map (before s cs j) d)) ∙ e .accept;
         fate = sym (rw (← same, merged-after-map s cs j, before-map s cs j, call-at-map cs j, full-map g f (d .clock) w (before s cs j))) ∙ e .fate;
         term = rw (call-at-map cs j, run-map s cs) at (e .term);

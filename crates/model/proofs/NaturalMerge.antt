@@ -10,7 +10,7 @@ use Rattle.lists.proofs.Bools.{cond-ap}
 use Rattle.lists.proofs.Tests.{any-map, select-map, select-same, append-map, map-map}
 use Rattle.lists.proofs.Merges.{merge-map}
 use Rattle.model.specs.Records.{Entry, value, tombstone, Point, Range, Level, is-put, held, held-all}
-use Rattle.model.specs.Merge.{covers, covered, range-before, range-slots, names, point-before, point-slots, same-range, range-goes, point-goes, gone, later, merged, settled, delete-slots, joined, freed}
+use Rattle.model.specs.Merge.{range-covers, covered, range-before, range-slots, names, point-before, point-slots, same-range, range-goes, point-goes, gone, later, merged, settled, delete-slots, joined, freed}
 use Rattle.model.specs.Renaming.{map-entry, map-point, map-range, map-level}
 
 module _ {S T A B : Type 0} (g : S → T) (f : A → B) where
@@ -22,7 +22,7 @@ module _ {S T A B : Type 0} (g : S → T) (f : A → B) where
   names-map ps k = any-map (map-point g f) (λ p. eqb (p .key) k) ps
 
   pub covered-map : (rs : List (Range S)) (k : ℕ) → covered (map (map-range g f) rs) k ≡ covered rs k
-  covered-map rs k = any-map (map-range g f) (λ r. covers r k) rs
+  covered-map rs k = any-map (map-range g f) (λ r. range-covers r k) rs
 
   pub held-map : (l : Level S A) → held (map-level g f l) ≡ held l
   held-map l = rw (length-map (l .points) (map-point g f), length-map (l .ranges) (map-range g f))
@@ -68,7 +68,7 @@ module _ {S T A B : Type 0} (g : S → T) (f : A → B) where
   -- The upper level may have tags and tallies of its own.
   module _ {R Q C D : Type 0} (h : R → Q) (e : C → D) (u : Level R C) where
     pub point-goes-map : (p : Point S A) → point-goes (map-level h e u) (map-point g f p) ≡ point-goes u p
-    point-goes-map p = rw (any-map (map-point h e) (λ q. eqb (q .key) (p .key)) (u .points), any-map (map-range h e) (λ r. covers r (p .key)) (u .ranges))
+    point-goes-map p = rw (any-map (map-point h e) (λ q. eqb (q .key) (p .key)) (u .points), any-map (map-range h e) (λ r. range-covers r (p .key)) (u .ranges))
 
     pub range-goes-map : (r : Range S) → range-goes (map (map-range h e) (u .ranges)) (map-range g f r) ≡ range-goes (u .ranges) r
     range-goes-map r = any-map (map-range h e) (λ q. same-range q r) (u .ranges)

@@ -16,7 +16,7 @@ use Rattle.lists.proofs.Tests.{any-map, any-same, any-select, any-select-weaken
 use Rattle.lists.proofs.Counting.{Distinct, pigeonhole}
 use Rattle.model.specs.Records.{Point, Level, State, empty, fresh}
 use Rattle.model.specs.Merge.{names, point-before}
-use Rattle.model.specs.Steps.{deletes, put, delete, delete-range, merge-state, merge-all, no-slot}
+use Rattle.model.specs.Steps.{write-covers, put, delete, delete-range, merge-state, merge-all, no-slot}
 use Rattle.model.specs.Lookup.{absent, found, Row, is-found, find, lookup}
 use Rattle.model.specs.Live.{SlotsLive}
 use Rattle.model.specs.Calls.{Op, written, flush, tick, Call, Outcome, bad-clock, prepared, out-of-slots, step, run, answers, refusals}
@@ -66,8 +66,8 @@ module _ {A : Type 0} where
   unfolding changed get
   get-changed t (written (put n a)) rs k = by-cases (eqb n k)
       (λ e. rw e) (λ e. rw e (get-reject (λ j. eqb j n) rs k ∙ rw (eqb-sym k n, e)))
-  get-changed t (written (delete n)) rs k = get-reject (deletes {A = A} (delete n)) rs k
-  get-changed t (written (delete-range lo hi)) rs k = get-reject (deletes {A = A} (delete-range lo hi)) rs k
+  get-changed t (written (delete n)) rs k = get-reject (write-covers {A = A} (delete n)) rs k
+  get-changed t (written (delete-range lo hi)) rs k = get-reject (write-covers {A = A} (delete-range lo hi)) rs k
   get-changed t flush rs k = refl
   get-changed t tick rs k = refl
 

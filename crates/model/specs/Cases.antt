@@ -98,6 +98,9 @@ pub record NearMissTable : Type 0 where
   pub range-wipes-first :
       answers (run deep sunk) (R 2 5 6 ∷ T 5 ∷ T 6 ∷ []) ≡ accepts 1 0 ∷ accepts 0 0 ∷ accepts 1 3 ∷ []
   pub range-is-obeyed-above : lookup (run deep (sunk ++ R 2 5 6 ∷ []) .levels) 5 ≡ absent
+  -- "A delete covers the dockets from its lo to its hi", and no others.
+  pub range-spares-what-lies-before : lookup (run deep (sunk ++ R 2 6 6 ∷ []) .levels) 5 ≡ found 50 1
+  pub range-spares-what-lies-past : lookup (run deep (sunk ++ R 2 6 6 ∷ []) .levels) 7 ≡ found 70 1
   -- "If a slot is now free, the write goes on as usual."
   pub not-full-early :
       answers (store 2 (settings 2 2 1 9)) (P 1 5 50 ∷ D 2 5 ∷ P 3 6 60 ∷ P 4 7 70 ∷ [])

@@ -6,7 +6,7 @@ use Prim.Native.Nat.{ℕ, suc, _-_, _≤_, _<_}
 use lib.Dec.{eqb}
 use lib.ListN.{getD, take, drop, set}
 use Rattle.model.specs.Records.{State}
-use Rattle.model.specs.Steps.{deletes, Write, put, crowded, full, buffer-due}
+use Rattle.model.specs.Steps.{write-covers, Write, put, crowded, full, buffer-due}
 use Rattle.model.specs.Calls.{Op, written, flush, tick, Call, bad-docket, bad-clock, prepared, step, run}
 
 module _ {A : Type 0} where
@@ -62,8 +62,7 @@ pub record Erased {S A : Type 0} (s : State S A) (cs : List (Call A)) (i j k : �
   pub after : i < j
   pub write : Write A
   pub is-write : call-at cs j .op ≡ written write
-  -- "A delete covers the dockets from its lo to its hi."
-  pub covers : deletes write k ≡ true
+  pub covers : write-covers write k ≡ true
   -- "Accepted is a call that meets no refusal."
   pub accept : accepted (before s cs j) (call-at cs j) ≡ true
   -- "it acted on level L directly where the steps say so, else it entered the buffer"

@@ -1,5 +1,6 @@
 -- Document 01 as definitions, in its own order.
 pub mod Records
+pub mod Coverage
 pub mod Merge
 pub mod Steps
 pub mod Lookup

@@ -3,17 +3,17 @@ use mathlib.Core.Bool.{Bool, cond, _&&_, _||_}
 use mathlib.Core.List.{List, [], _∷_, _++_, map, reverseAux}
 use Prim.Native.Nat.{ℕ, min, max}
 use lib.Dec.{ltb, eqb}
-use Rattle.settings.specs.Limits.{within}
 use Rattle.lists.specs.Lists.{any, select, reject, merge}
 use Rattle.model.specs.Records.{Point, Range, Level, is-put}
+use Rattle.model.specs.Coverage.{covers}
 
 module _ {S : Type 0} where
-  -- "A delete covers the dockets from its lo to its hi."
-  abbrev pub covers : Range S → ℕ → Bool
-  covers r k = within (r .lo) k (r .hi)
+  -- A range covers the docket; some range of a level does.
+  abbrev pub range-covers : Range S → ℕ → Bool
+  range-covers r k = covers (r .lo) (r .hi) k
 
   abbrev pub covered : List (Range S) → ℕ → Bool
-  covered rs k = any (λ r. covers r k) rs
+  covered rs k = any (λ r. range-covers r k) rs
 
   -- "ranges ascend strictly by lo, then hi"
   abbrev pub range-before : Range S → Range S → Bool

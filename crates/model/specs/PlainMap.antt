@@ -5,7 +5,7 @@ use Prim.Native.Nat.{ℕ}
 use lib.Dec.{leb, eqb}
 use lib.ListN.{length}
 use Rattle.lists.specs.Lists.{any, reject}
-use Rattle.model.specs.Steps.{deletes, put, delete, delete-range}
+use Rattle.model.specs.Steps.{write-covers, put, delete, delete-range}
 use Rattle.model.specs.Lookup.{Found, absent, found, Row}
 use Rattle.model.specs.Calls.{Op, written, flush, tick, Call, bad-docket, bad-clock}
 
@@ -26,8 +26,8 @@ module _ {A : Type 0} where
   -- A put sets its docket's row; a delete takes away what it covers; flush and tick change nothing.
   unfoldable pub changed : ℕ → Op A → List (Row A) → List (Row A)
   changed t (written (put k a)) rs = record { key = k; tally = a; stamp = t } ∷ reject (has-key k) rs
-  changed t (written (delete k)) rs = reject (λ r. deletes {A = A} (delete k) (r .key)) rs
-  changed t (written (delete-range lo hi)) rs = reject (λ r. deletes {A = A} (delete-range lo hi) (r .key)) rs
+  changed t (written (delete k)) rs = reject (λ r. write-covers {A = A} (delete k) (r .key)) rs
+  changed t (written (delete-range lo hi)) rs = reject (λ r. write-covers {A = A} (delete-range lo hi) (r .key)) rs
   changed t flush rs = rs
   changed t tick rs = rs
 

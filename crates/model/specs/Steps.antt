@@ -5,9 +5,10 @@ use Prim.Native.Nat.{ℕ, suc, _-_}
 use lib.Dec.{leb, ltb, eqb}
 use lib.ListN.{set}
 use Rattle.settings.specs.declared.Settings.{Settings}
-use Rattle.settings.specs.Limits.{within, capacity, limit}
+use Rattle.settings.specs.Limits.{capacity, limit}
 use Rattle.lists.specs.Lists.{none, select, reject, iterate}
 use Rattle.model.specs.Records.{value, tombstone, Point, Level, State, empty, level, stored, held}
+use Rattle.model.specs.Coverage.{covers}
 use Rattle.model.specs.Merge.{names, point-slots, point-goes, gone, release, merged, joined, freed}
 
 -- A state, and the merges that led to it: "those whose upper level had a record".
@@ -22,11 +23,11 @@ pub data Write (A : Type 0) : Type 0 where
   delete-range : ℕ → ℕ → Write A
 
 module _ {A : Type 0} where
-  -- "A delete covers the dockets from its lo to its hi."
-  abbrev pub deletes : Write A → ℕ → Bool
-  deletes (put k a) n = false
-  deletes (delete k) n = eqb k n
-  deletes (delete-range lo hi) n = within lo n hi
+  -- A write covers the docket: a put none, a delete its own.
+  abbrev pub write-covers : Write A → ℕ → Bool
+  write-covers (put k a) n = false
+  write-covers (delete k) n = covers k k n
+  write-covers (delete-range lo hi) n = covers lo hi n
 
 module _ {S A : Type 0} where
   -- "a level of one record …; owed of that level is the clock for a delete, 0 for a put"

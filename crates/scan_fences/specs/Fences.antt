@@ -2,7 +2,6 @@
 use mathlib.Core.Bool.{Bool, false, cond, _||_}
 use mathlib.Core.List.{List, map}
 use Prim.Native.Nat.{ℕ, zero, suc, _+_, _<_, _≤_, min}
-use lib.Dec.{leb}
 use lib.ListN.{length, getD, set}
 use Rattle.model.specs.Merge.{covered}
 use Rattle.tables.specs.Slots.{hi-of}
@@ -18,10 +17,13 @@ pub record Ready (e ranges : List ℕ) (n : ℕ) : Type 0 where
   pub room : n ≤ length ranges
   pub order : (i : ℕ) → i < n → Ordered e (getD ranges i 0)
 
--- Whether one of n levels from level i on has a range over docket k.
-unfoldable pub over : List ℕ → List ℕ → ℕ → ℕ → ℕ → Bool
-over e ranges k zero i = false
-over e ranges k (suc n) i = covered (map (read-range e) (chain-from e (getD ranges i 0))) k || over e ranges k n (suc i)
+-- Whether a range of the chain from slot h covers docket k, and whether one of n levels from level i on has such a range.
+abbrev pub chain-covers : List ℕ → ℕ → ℕ → Bool
+chain-covers e h k = covered (map (read-range e) (chain-from e h)) k
+
+unfoldable pub levels-cover : List ℕ → List ℕ → ℕ → ℕ → ℕ → Bool
+levels-cover e ranges k zero i = false
+levels-cover e ranges k (suc n) i = chain-covers e (getD ranges i 0) k || levels-cover e ranges k n (suc i)
 
 -- From slot h on, the first range that ends at docket k or later.
 abbrev pub range-front : List ℕ → ℕ → ℕ → ℕ
@@ -32,11 +34,11 @@ pub record View : Type 0 where
   pub ranges : List ℕ
   pub cover : Cover
 
--- Of n levels from level i on, the first with a range over docket k; before the fence nothing changes.
+-- Of n levels from level i on, the first with a range that covers docket k; before the fence nothing changes.
 unfoldable pub surveyed : List ℕ → ℕ → ℕ → ℕ → List ℕ → ℕ → View
 surveyed e k zero i ranges fence = record { ranges = ranges; cover = record { level = i; fence = fence } }
 surveyed e k (suc n) i ranges fence =
     let s = range-front e k (getD ranges i 0) in
-    cond (leb (key-from e s) k)
+    cond (chain-covers e s k)
     (record { ranges = set ranges i s; cover = record { level = i; fence = min fence (hi-of e s + 1) } })
     (surveyed e k n (suc i) (set ranges i s) (min fence (key-from e s)))

@@ -1,4 +1,5 @@
 // The ranges that levels still have to come: which level is the shallowest with one over a docket, and up to where that is so.
+use chain_cover::first_covers;
 use chain_cover::skip;
 use scan_heads::key_at;
 use table_slots::hi_of;
@@ -26,14 +27,13 @@ pub fn survey(e: &[u32], ranges: &mut [usize], levels: usize, docket: u32) -> Co
     while i < levels {
         let s = skip(e, ranges[i], docket);
         ranges[i] = s;
-        let lo = key_at(e, s);
-        if lo <= docket {
+        if first_covers(e, s, docket) {
             return Cover {
                 level: i,
                 fence: lesser(fence, hi_of(e, s) + 1),
             };
         }
-        fence = lesser(fence, lo);
+        fence = lesser(fence, key_at(e, s));
         i += 1;
     }
     Cover {

@@ -23,7 +23,7 @@ use Rattle.lookup_level.proofs.Answers.{find-decides, lookup-decides}
 use Rattle.lookup_level.proofs.Walks.{points-say, points-end, points-past}
 use Rattle.scan_heads.specs.Heads.{key-from}
 use Rattle.scan_heads.proofs.Packs.{key-on}
-use Rattle.scan_fences.specs.Fences.{over}
+use Rattle.scan_fences.specs.Fences.{levels-cover}
 use Rattle.scan_step.specs.Sweeps.{levels-from, range-at}
 
 -- Points that begin past the docket say nothing of it.
@@ -66,8 +66,8 @@ module _ (e : List ℕ) (p : ℕ → ℕ) (ranges : List ℕ) (j : ℕ) where
   -- The levels before one have no point of the docket: one of them has a range over it, or else that one, which has a point of it, tells.
   module _ (level : ℕ) (x : Entry ℕ) (t : ℕ) (is : points-say e (p level) j ≡ tells x t) where
     pub says-at : (d n i : ℕ) → i + d ≡ level → d < n → ((m : ℕ) → i ≤ m → m < level → points-say e (p m) j ≡ Deeper)
-        → says n i ≡ cond (over e ranges j d i) absent (reads x t)
-    unfolding lookup levels-from over
+        → says n i ≡ cond (levels-cover e ranges j d i) absent (reads x t)
+    unfolding lookup levels-from levels-cover
     says-at d zero i q lt none = absurd (omega arith)
     says-at zero (suc n) i q lt none =
         let here : i ≡ level = omega arith in
@@ -75,7 +75,7 @@ module _ (e : List ℕ) (p : ℕ → ℕ) (ranges : List ℕ) (j : ℕ) where
     says-at (suc d) (suc n) i q lt none =
         find-decides _ j _
         ∙ rw (none i (omega arith) (omega arith), says-at d n (suc i) (omega arith) (omega arith) (λ m a b. none m (omega arith) b))
-        (cond-or (ranges-say e (range-at ranges i) j) (over e ranges j d (suc i)))
+        (cond-or (ranges-say e (range-at ranges i) j) (levels-cover e ranges j d (suc i)))
       where
         cond-or : (a b : Bool) → cond a absent (cond b absent (reads x t)) ≡ cond (a || b) absent (reads x t)
         cond-or true b = refl

@@ -16,7 +16,7 @@ use Rattle.lookup_level.proofs.Walks.{points-say, points-here, points-next}
 use Rattle.scan_heads.specs.Heads.{passed, point, left}
 use Rattle.scan_heads.proofs.Packs.{key-on}
 use Rattle.scan_heads.proofs.Passing.{points-least, points-later, slot-key, slot-on, level-inside, passed-fits, passed-later, passed-fewer, point-first, point-passed}
-use Rattle.scan_fences.specs.Fences.{over}
+use Rattle.scan_fences.specs.Fences.{levels-cover}
 use Rattle.scan_step.specs.declared.Sweep.{Sweep}
 use Rattle.scan_step.specs.Sweeps.{range-at, to-come, next-key, next-level, Sweeping, told, moved, gone, neared, rest, listed, Stepped}
 use Rattle.scan_step.proofs.Branches.{gone-before, gone-covered, gone-delete, gone-found, neared-none, neared-fenced, neared-gone}
@@ -57,7 +57,7 @@ module _ {e : List ℕ} {m : Sweep} (words : Fits32 e) (s : Sweeping e m) where
     key-here = sym (key-on e slot (slot-on (s .points) low)) ∙ slot-key (s .points)
 
     -- The docket is absent if a level above has a range over it; else the record tells.
-    says-here : lookup (to-come e m) k ≡ cond (over e (m .ranges) k (next-level m) 0) absent (reads (read-point e slot .entry) (stamp-of e slot))
+    says-here : lookup (to-come e m) k ≡ cond (levels-cover e (m .ranges) k (next-level m) 0) absent (reads (read-point e slot .entry) (stamp-of e slot))
     says-here =
         says-at e (point (m .heads)) (m .ranges) k (next-level m) (read-point e slot .entry) (stamp-of e slot)
         (rw (point-first (s .points) low) (points-here e slot k (slot-on (s .points) low) key-here))
@@ -114,7 +114,7 @@ module _ {e : List ℕ} {m : Sweep} (words : Fits32 e) (s : Sweeping e m) where
       stepped-on q = record { sweeping = moved-sweeping (k + 1); leads = rest-passed ∙ rw q; fewer = λ _. fewer }
 
     -- However its docket stands, passing the first record is a step.
-    pub gone-stepped : (covered : Bool) → covered ≡ over e (m .ranges) k (next-level m) 0 → Stepped e m (gone e m covered)
+    pub gone-stepped : (covered : Bool) → covered ≡ levels-cover e (m .ranges) k (next-level m) 0 → Stepped e m (gone e m covered)
     gone-stepped covered is = by-cases (ltb k (m .from))
         (λ t.
         let lt = ltb-true k (m .from) t in

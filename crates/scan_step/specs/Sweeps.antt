@@ -12,7 +12,7 @@ use Rattle.tables.specs.Slots.{kind-of, tally-of, stamp-of}
 use Rattle.lookup_level.specs.Answers.{chain-level}
 use Rattle.scan_heads.specs.declared.Heads.{Heads}
 use Rattle.scan_heads.specs.Heads.{key-of, level-of, passed, point, left, Fits}
-use Rattle.scan_fences.specs.Fences.{Ready, over}
+use Rattle.scan_fences.specs.Fences.{Ready, levels-cover}
 use Rattle.scan_step.specs.declared.Sweep.{Sweep}
 
 -- What n levels from level i on have to come, where p and r tell the first point and the first range of each.
@@ -40,7 +40,7 @@ next-level m = level-of (m .heads .first)
 pub record Sweeping (e : List ℕ) (m : Sweep) : Type 0 where
   pub points : Fits e (m .levels) (m .heads)
   pub ranges : Ready e (m .ranges) (m .levels)
-  pub covers : (j n : ℕ) → next-key m ≤ j → j < m .fence → n ≤ m .levels → over e (m .ranges) j n 0 ≡ ltb (m .cover) n
+  pub covers : (j n : ℕ) → next-key m ≤ j → j < m .fence → n ≤ m .levels → levels-cover e (m .ranges) j n 0 ≡ ltb (m .cover) n
   pub last : m .hi ≤ 65535
 
 -- The same to come; the sweep is on its way, or has come to a live docket or to none.

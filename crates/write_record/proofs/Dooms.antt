@@ -5,13 +5,13 @@ use mathlib.Core.List.{List, map}
 use Prim.Native.Nat.{ℕ}
 use native.Mathlib.Omega.{arith}
 use lib.Dec.{eqb}
-use Rattle.settings.specs.Limits.{within}
 use Rattle.lists.specs.Lists.{select, reject}
 use Rattle.lists.specs.All.{All}
 use Rattle.lists.proofs.Bools.{eqb-sym}
 use Rattle.lists.proofs.Tests.{all-weaken}
 use Rattle.model.specs.Records as model
 use Rattle.model.specs.Records.{Point}
+use Rattle.model.specs.Coverage.{covers}
 use Rattle.model.specs.Merge.{point-goes, range-goes}
 use Rattle.model.specs.Steps.{Write, single}
 use Rattle.tables.specs.Placed.{point-cell, range-cell}
@@ -30,7 +30,7 @@ module _ {S : Type 0} (x : S) (t : ℕ) (v : Write ℕ) (w : Record) (is : w ≡
   -- A point's cell passes the test where the write makes the point go.
   point-doomed : (p : Point ℕ ℕ) → Keyed p → doomed (Points (w .lo) (w .hi)) (point-cell p) ≡ point-goes (single x t v) p
   point-doomed p low =
-      ap (λ (k : ℕ). within (w .lo) k (w .hi)) (point-lo p low) ∙ ap (λ (r : Record). within (r .lo) (p .key) (r .hi)) is ∙ sym (single-goes x t v p)
+      ap (λ (k : ℕ). covers (w .lo) (w .hi) k) (point-lo p low) ∙ ap (λ (r : Record). covers (r .lo) (r .hi) (p .key)) is ∙ sym (single-goes x t v p)
 
   module _ (ps : List (Point ℕ ℕ)) (keys : All Keyed ps) where
     pub points-gone : select (doomed (Points (w .lo) (w .hi))) (map point-cell ps) ≡ map point-cell (select (point-goes (single x t v)) ps)

@@ -9,7 +9,7 @@ use Rattle.lists.proofs.Tests.{set-map}
 use Rattle.model.specs.Records.{Level, State, empty, level, stored}
 use Rattle.model.specs.Calls.{timed}
 use Rattle.tables.proofs.Rows.{level-table-set}
-use Rattle.tables.specs.Rows.{set-row, level-table}
+use Rattle.tables.specs.Rows.{level-row, set-row, level-table}
 use Rattle.tables.specs.Placed.{point-cell, range-cell, level-chains, row-of-level, level-words}
 use Rattle.tables.specs.Formed.{Formed}
 use Rattle.tables.proofs.Back.{formed-once}

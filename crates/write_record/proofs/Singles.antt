@@ -7,27 +7,27 @@ use Prim.Native.Nat.{ℕ, max, _≤_}
 use native.Mathlib.Omega.{arith}
 use lib.Dec.{ltb, eqb}
 use borrow.Author.Tests.{ltb-false}
-use Rattle.settings.specs.Limits.{within}
 use Rattle.lists.specs.Lists.{any}
 use Rattle.lists.specs.All.{All}
 use Rattle.lists.proofs.Bools.{or-false, or-false-left, or-false-right, cond-elim}
 use Rattle.model.specs.Records.{Point, Range, held}
+use Rattle.model.specs.Coverage.{covers}
 use Rattle.model.specs.Merge.{point-goes, range-goes, same-range, later}
 use Rattle.model.specs.Steps.{Write, put, delete, delete-range, single}
 use Rattle.model.specs.Calls.{written, bad-docket}
+use Rattle.model.proofs.Coverage.{covers-one}
 use Rattle.tables.specs.Placed.{point-cell, range-cell}
-use Rattle.merge_join.proofs.Spans.{within-one}
 use Rattle.merge_join.proofs.Points.{Keyed}
 use Rattle.merge_join.proofs.Ranges.{Spanned}
 use Rattle.write_record.specs.Records.{record-of, record-cell}
 
 module _ {S : Type 0} (x : S) (t : ℕ) where
-  -- A point goes where its docket is one of the write's, which are one for a put or a delete.
-  pub single-goes : (v : Write ℕ) (p : Point ℕ ℕ) → point-goes (single x t v) p ≡ within (record-of v .lo) (p .key) (record-of v .hi)
+  -- A point goes where the write, as a delete of its dockets, covers it: a put or a delete has one docket.
+  pub single-goes : (v : Write ℕ) (p : Point ℕ ℕ) → point-goes (single x t v) p ≡ covers (record-of v .lo) (record-of v .hi) (p .key)
   unfolding single any
-  single-goes (put k a) p = or-false (eqb k (p .key) || false) ∙ or-false (eqb k (p .key)) ∙ sym (within-one k (p .key))
-  single-goes (delete k) p = or-false (eqb k (p .key) || false) ∙ or-false (eqb k (p .key)) ∙ sym (within-one k (p .key))
-  single-goes (delete-range lo hi) p = or-false (within lo (p .key) hi)
+  single-goes (put k a) p = or-false (eqb k (p .key) || false) ∙ or-false (eqb k (p .key)) ∙ sym (covers-one k (p .key))
+  single-goes (delete k) p = or-false (eqb k (p .key) || false) ∙ or-false (eqb k (p .key)) ∙ sym (covers-one k (p .key))
+  single-goes (delete-range lo hi) p = or-false (covers lo hi (p .key))
 
   -- A range goes where it has the same lo and hi as a range delete.
   pub single-range-goes : (v : Write ℕ) (q : Range ℕ) → record-of v .kind ≡ 3 → range-goes (single x t v .ranges) q ≡ eqb (record-of v .lo) (q .lo) && eqb (record-of v .hi) (q .hi)

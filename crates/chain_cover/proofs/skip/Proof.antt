@@ -1,4 +1,4 @@
--- `chain_cover::skip` meets its contract. The loop's invariant: the chain from `at` is ordered, and what reaches the docket of it is what does of the chain from `from`.
+-- `chain_cover::skip`: the loop keeps true that the chain from `at` is ordered, and that what reaches the docket of it is what does of the chain from `from`.
 use mathlib.Core.Path.{_≡_, refl, sym, ap, _∙_}
 use native.Mathlib.Omega.{arith}
 use lib.ListN.{length}
@@ -6,7 +6,7 @@ use Rattle.tables.specs.Slots.{hi-of}
 use Rattle.tables.specs.Sound.{chain-from}
 use Rattle.chain_cover.specs.Walks.{Ordered}
 use Rattle.chain_cover.specs.Skips.{first-slot, reaching}
-use Rattle.chain_cover.proofs.Chains.{go-on, shorter}
+use Rattle.chain_cover.proofs.Chains.{On, go-on, shorter}
 use Rattle.chain_cover.proofs.Skips.{front-end, front-here, front-next}
 use Rattle.chain_cover.proofs.skip.Statement.{statement}
 use Rattle.chain_cover.proofs.skip.Tie as tie
@@ -17,32 +17,38 @@ Inv-loop e from docket at₀ at = Ordered e at × (reaching e docket (chain-from
 abbrev μ-loop : tie.MeasureT-loop
 μ-loop e from docket at₀ at = length (chain-from e at)
 
+-- The entry, seen from the turn that the code is in, and the chain there.
+abbrev entry : tie.In-loop Inv-loop μ-loop → tie.Start Inv-loop μ-loop
+entry c = c .before .before .before
+
+on : (c : tie.In-loop Inv-loop μ-loop) → On (entry c .args .e .now) (c .before .loop .at)
+on c = go-on _ _ (c .before .loop .inv .0) (c .loop-test .taken)
+
 loop-holds : tie.Need-loop-holds Inv-loop μ-loop
 loop-holds c = (c .before .pre, refl)
 
 hi-of-requires : tie.Need-hi-of-requires Inv-loop μ-loop
-hi-of-requires c κs = go-on _ _ (c .before .loop .inv .0) (c .loop-test .taken) .within
+hi-of-requires c κs = on c .within
 
 returns : tie.Need-returns Inv-loop μ-loop
 returns c =
-    let on = go-on _ _ (c .before .before .before .loop .inv .0) (c .before .before .loop-test .taken) in
-    let e = c .before .before .before .before .before .args .e .now in
-    sym (front-here e (hi-of e) (c .before .before .before .loop .at) (c .before .before .before .before .before .args .docket) on (omega (arith, c .before .hi-of .ensures))) ∙ ap first-slot (c .before .before .before .loop .inv .1)
+    let turn = c .before .before in
+    let a = entry turn .args in
+    let here = front-here (a .e .now) (hi-of (a .e .now)) (turn .before .loop .at) (a .docket) (on turn) (omega (arith, c .before .hi-of .ensures)) in
+    sym here ∙ ap first-slot (turn .before .loop .inv .1)
 
 next-of-requires : tie.Need-next-of-requires Inv-loop μ-loop
-next-of-requires c κs = go-on _ _ (c .before .before .before .loop .inv .0) (c .before .before .loop-test .taken) .within
+next-of-requires c κs = on (c .before .before) .within
 
 loop-less : tie.Need-loop-less Inv-loop μ-loop
-loop-less c =
-    let on = go-on _ _ (c .before .before .before .before .loop .inv .0) (c .before .before .before .loop-test .taken) in
-    rw (c .next-of .ensures) (shorter _ _ on)
+loop-less c = rw (c .next-of .ensures) (shorter _ _ (on (c .before .before .before)))
 
 loop-again : tie.Need-loop-again Inv-loop μ-loop
 loop-again c =
-    let on = go-on _ _ (c .before .before .before .before .loop .inv .0) (c .before .before .before .loop-test .taken) in
-    let e = c .before .before .before .before .before .before .args .e .now in
-    rw (c .next-of .ensures)
-    (on .rest, sym (front-next e (hi-of e) (c .before .before .before .before .loop .at) (c .before .before .before .before .before .before .args .docket) on (omega (arith, c .before .before .hi-of .ensures))) ∙ c .before .before .before .before .loop .inv .1)
+    let turn = c .before .before .before in
+    let a = entry turn .args in
+    let next = front-next (a .e .now) (hi-of (a .e .now)) (turn .before .loop .at) (a .docket) (on turn) (omega (arith, c .before .before .hi-of .ensures)) in
+    rw (c .next-of .ensures) (on turn .rest, sym next ∙ turn .before .loop .inv .1)
 
 returns-2 : tie.Need-returns-2 Inv-loop μ-loop
 returns-2 c =

@@ -1,4 +1,4 @@
--- `lookup_level::look_chains` meets its contract: by a point of the docket, else by a range over it.
+-- `lookup_level::look_chains`: a point of the docket decides; where there is none, a range over it does, and else the deeper levels.
 use mathlib.Core.Path.{_≡_, refl, sym, _∙_}
 use mathlib.Core.Logic.{_⊎_, ⊎-elim}
 use native.Mathlib.Omega.{arith}
@@ -23,14 +23,18 @@ is-covered-requires c κs = search needs
 
 returns : tie.Need-returns
 returns c =
-    let a = c .before .before .before .before .before .before .args in
-    level-by-range (chain-level (a .e .now) (a .points) (a .ranges)) (a .docket) _ (c .before .before .before .before .find-point .ensures) (c .before .before .enum-told .given .1)
+    let told = c .before .before in
+    let found = told .before .before in
+    let a = found .before .before .args in
+    level-by-range (chain-level (a .e .now) (a .points) (a .ranges)) (a .docket) _ (found .find-point .ensures) (told .enum-told .given .1)
     (sym (c .before .is-covered .ensures) ∙ c .if1 .taken)
 
 returns-2 : tie.Need-returns-2
 returns-2 c =
-    let a = c .before .before .before .before .before .before .args in
-    level-deeper (chain-level (a .e .now) (a .points) (a .ranges)) (a .docket) _ (c .before .before .before .before .find-point .ensures) (c .before .before .enum-told .given .1)
+    let told = c .before .before in
+    let found = told .before .before in
+    let a = found .before .before .args in
+    level-deeper (chain-level (a .e .now) (a .points) (a .ranges)) (a .docket) _ (found .find-point .ensures) (told .enum-told .given .1)
     (sym (c .before .is-covered .ensures) ∙ c .if1 .left)
 
 -- Tags 0 and 1: a point of the docket has decided.

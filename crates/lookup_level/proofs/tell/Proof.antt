@@ -1,4 +1,4 @@
--- `lookup_level::tell` meets its contract.
+-- `lookup_level::tell`: a point that is not a put, by its kind, is a delete and says absent; a put gives its tally and its stamp.
 use native.Mathlib.Omega.{arith}
 use borrow.Author.Tests.{eq-eqb, ne-eqb}
 use borrow.Author.Needs.{needs}

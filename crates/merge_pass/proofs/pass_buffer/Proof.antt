@@ -10,7 +10,6 @@ use Rattle.tables.specs.Rows.{InRows, settings-of, level-row}
 use Rattle.merge_levels.proofs.Store.{laid-length, laid-allowed, held-read}
 use Rattle.merge_pass.proofs.Due.{laid-buffer-due}
 use Rattle.merge_pass.proofs.Passing.{buffer-stays, buffer-merged}
-use borrow.Author.Needs.{needs}
 use Rattle.merge_pass.proofs.pass_buffer.Statement.{statement}
 use Rattle.merge_pass.proofs.pass_buffer.Tie as tie
 

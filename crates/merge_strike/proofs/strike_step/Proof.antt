@@ -1,23 +1,39 @@
--- `merge_strike::strike_step` meets its contract: both upper chains are skipped to the lower point's docket, and the point goes where one of them is over it.
-use mathlib.Core.Path.{sym, _∙_}
+-- `merge_strike::strike_step`: both upper chains are moved on to the lower point's docket, and the point goes where one of them strikes it there.
 use borrow.Author.Needs.{needs}
-use Rattle.merge_strike.proofs.Strikes.{lower-in-table, points-walk, ranges-walk, points-walk-on, ranges-walk-on, struck-by-point, struck-by-range}
+use Rattle.merge_strike.proofs.Strikes.{lower-in-table, points-walk, ranges-walk, points-asked, ranges-asked, strikes}
 use Rattle.merge_strike.proofs.strike_step.Statement.{statement}
 use Rattle.merge_strike.proofs.strike_step.Tie as tie
+
+-- Where the code stands: at the entry, where the docket is read, where the points and where both chains were moved.
+abbrev entry : tie.After-lo-of → tie.Start
+entry c = c .before .before .before
+
+abbrev docket : tie.After-seek → tie.After-lo-of
+docket c = c .before .before
+
+abbrev points : tie.After-skip → tie.After-seek
+points c = c .before .before
+
+abbrev moved : tie.After-slice-known2 → tie.After-is-struck
+moved c = c .before .before .before .before
 
 lo-of-requires : tie.Need-lo-of-requires
 lo-of-requires c κs = lower-in-table _ _ _ (c .before .before .pre .0 .has)
 
+seek-requires : tie.Need-seek-requires
+seek-requires c κs = points-walk _ _ _ (entry (c .before) .pre .0 .has)
+
 skip-requires : tie.Need-skip-requires
-skip-requires c κs = points-walk _ _ _ (c .before .before .before .before .pre .0 .has)
+skip-requires c κs = ranges-walk _ _ _ (entry (docket (c .before)) .pre .0 .has)
 
-skip-requires-2 : tie.Need-skip-requires-2
-skip-requires-2 c κs = ranges-walk _ _ _ (c .before .before .before .before .before .before .pre .0 .has)
-
-is-covered-requires : tie.Need-is-covered-requires
-is-covered-requires c κs =
-    let d = c .before in
-    points-walk-on _ _ _ (d .before .before .before .before .before .before .before .pre .0 .has) _ _ _ (d .before .before .before .before .lo-of .ensures) (d .before .before .skip .ensures) (d .skip2 .ensures)
+is-struck-requires : tie.Need-is-struck-requires
+is-struck-requires c κs =
+    let p = points (c .before) in
+    let k = docket p in
+    let w = entry k .pre .0 .has in (
+      points-asked _ _ _ w _ _ _ (k .lo-of .ensures) (p .seek .ensures) (c .before .skip .ensures),
+      ranges-asked _ _ _ w _ _ _ (k .lo-of .ensures) (p .seek .ensures) (c .before .skip .ensures),
+    )
 
 sift-requires : tie.Need-sift-requires
 sift-requires c κs = search needs
@@ -27,39 +43,20 @@ same-length c = search needs
 
 returns : tie.Need-returns
 returns c =
-    let d = c .before .before .before .before .before .before .before in
-    λ g w. struck-by-point g _ _ w _ _ _ (d .before .before .before .before .lo-of .ensures) (d .before .before .skip .ensures) (d .skip2 .ensures) (d .before .before .before .before .before .before .before .pre .1) _ _
-    (sym (c .before .before .before .before .before .is-covered .ensures) ∙ c .before .before .before .before .if1 .taken) (c .before .before .sift .ensures)
-
-is-covered-requires-2 : tie.Need-is-covered-requires-2
-is-covered-requires-2 c κs =
-    let d = c .before .before .before .before in
-    ranges-walk-on _ _ _ (d .before .before .before .before .before .before .before .pre .0 .has) _ _ _ (d .before .before .before .before .lo-of .ensures) (d .before .before .skip .ensures) (d .skip2 .ensures)
-
-sift-requires-2 : tie.Need-sift-requires-2
-sift-requires-2 c κs = search needs
-
-same-length-2 : tie.Need-same-length-2
-same-length-2 c = search needs
-
-returns-2 : tie.Need-returns-2
-returns-2 c =
-    let d = c .before .before .before .before .before .before .before .before .before in
-    λ g w. struck-by-range g _ _ w _ _ _ (d .before .before .before .before .lo-of .ensures) (d .before .before .skip .ensures) (d .skip2 .ensures) (d .before .before .before .before .before .before .before .pre .1) _ _ _
-    (sym (c .before .before .before .before .before .before .before .is-covered .ensures) ∙ c .before .before .before .before .before .before .if1 .left) (c .before .before .before .before .is-covered2 .ensures) (c .before .before .sift2 .ensures)
+    let r = moved c .before .before in
+    let p = points r in
+    let k = docket p in
+    λ g w. strikes g _ _ w _ _ _ (k .lo-of .ensures) (p .seek .ensures) (r .skip .ensures) (entry k .pre .1) _ _ _
+    (moved c .is-struck .ensures) (c .before .before .sift .ensures)
 
 pub strike-step-spec : {M : Type 1} → statement M
 strike-step-spec =
     tie.close
     (tie.spec
     lo-of-requires
+    seek-requires
     skip-requires
-    skip-requires-2
-    is-covered-requires
+    is-struck-requires
     sift-requires
     same-length
-    returns
-    is-covered-requires-2
-    sift-requires-2
-    same-length-2
-    returns-2)
+    returns)

@@ -1,4 +1,4 @@
--- `scan_heads::key_at` meets its contract: a chain is empty, or begins with its first slot.
+-- `scan_heads::key_at`: a chain is empty, or begins with its first slot.
 use Rattle.chain_cover.proofs.Chains.{chain-end, go-on}
 use Rattle.scan_heads.proofs.key_at.Statement.{statement}
 use Rattle.scan_heads.proofs.key_at.Tie as tie

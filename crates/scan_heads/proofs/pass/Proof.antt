@@ -1,4 +1,4 @@
--- `scan_heads::pass` meets its contract: the first level stays ahead, or the second leads.
+-- `scan_heads::pass`: the first level stays ahead, or the second leads.
 use mathlib.Core.Path.{sym}
 use native.Mathlib.Omega.{arith}
 use Rattle.chain_cover.proofs.Chains.{go-on}

@@ -1,4 +1,4 @@
--- `scan_heads::push` meets its contract: the first and the new one change places where the new one is less.
+-- `scan_heads::push`: the first and the new one change places where the new one is less.
 use borrow.Author.Needs.{needs}
 use Rattle.scan_heads.proofs.push.Statement.{statement}
 use Rattle.scan_heads.proofs.push.Tie as tie

@@ -1,4 +1,4 @@
--- `scan_heads::sink` meets its contract: each of the numbers is the lesser or the greater of two.
+-- `scan_heads::sink`: each of the numbers is the lesser or the greater of two.
 use borrow.Author.Needs.{needs}
 use Rattle.scan_heads.proofs.sink.Statement.{statement}
 use Rattle.scan_heads.proofs.sink.Tie as tie
@@ -47,7 +47,8 @@ returns c =
     let g4 = s .before in
     let g3 = g4 .before in
     let g2 = g3 .before in
-    rw (c .greater5 .ensures, l5 .lesser5 .ensures, l4 .lesser4 .ensures, l3 .lesser3 .ensures, l2 .lesser2 .ensures, l1 .lesser .ensures, s .slot-of .ensures, g4 .greater4 .ensures, g3 .greater3 .ensures, g2 .greater2 .ensures, g2 .before .greater .ensures)
+    rw (c .greater5 .ensures, l5 .lesser5 .ensures, l4 .lesser4 .ensures, l3 .lesser3 .ensures, l2 .lesser2 .ensures, l1 .lesser .ensures)
+    (rw (s .slot-of .ensures, g4 .greater4 .ensures, g3 .greater3 .ensures, g2 .greater2 .ensures, g2 .before .greater .ensures))
 
 pub sink-spec : {M : Type 1} → statement M
 sink-spec =

@@ -1,4 +1,4 @@
--- `scan_step::go` meets its contract: the record is passed, and each way out is a branch of the definition.
+-- `scan_step::go`: the record is passed, and each way out is a branch of the definition: before the start, covered, a delete, or found.
 use mathlib.Core.Path.{sym, _∙_}
 use native.Mathlib.Omega.{arith}
 use borrow.Author.Needs.{needs}
@@ -6,6 +6,10 @@ use Rattle.scan_heads.proofs.Passing.{slot-ordered, slot-some, slot-on}
 use Rattle.scan_step.proofs.Branches.{gone-before, gone-covered, gone-delete, gone-found}
 use Rattle.scan_step.proofs.go.Statement.{statement}
 use Rattle.scan_step.proofs.go.Tie as tie
+
+-- The entry, seen from where the record is passed.
+abbrev entry : tie.After-pass → tie.Start
+entry c = c .before .before .before .before
 
 key-of-requires : tie.Need-key-of-requires
 key-of-requires c κs = search needs
@@ -18,7 +22,7 @@ pass-requires c κs =
 returns : tie.Need-returns
 returns c =
     let k = c .before .before in
-    let a = k .before .before .before .before .args in
+    let a = entry k .args in
     rw (k .pass .ensures) (sym (gone-before (a .e .now) (a .m) (a .covered) (rw (k .before .key-of .ensures) at (c .if1 .taken))))
 
 add-r : tie.Need-add-r
@@ -27,32 +31,34 @@ add-r c = search needs
 returns-2 : tie.Need-returns-2
 returns-2 c =
     let k = c .before .before .before in
-    let a = k .before .before .before .before .args in
+    let a = entry k .args in
     rw (k .pass .ensures, k .before .key-of .ensures)
     (sym (gone-covered (a .e .now) (a .m) (a .covered) (rw (k .before .key-of .ensures) at (c .before .if1 .left)) (c .if2 .taken)))
 
 kind-of-requires : tie.Need-kind-of-requires
 kind-of-requires c κs =
-    let p = c .before .before .before .before .before .before .before .pre in
+    let p = entry (c .before .before .before) .pre in
     slot-on (p .0 .points) (omega (arith, p .0 .last, p .1)) .within
 
 returns-3 : tie.Need-returns-3
 returns-3 c =
     let t = c .before .before in
     let k = t .before .before .before in
-    let a = k .before .before .before .before .args in
+    let a = entry k .args in
     rw (k .pass .ensures, k .before .key-of .ensures)
     (sym (gone-delete (a .e .now) (a .m) (a .covered) (rw (k .before .key-of .ensures) at (t .before .if1 .left)) (t .if2 .left)
     (λ q. c .if3 .taken (c .before .kind-of .ensures ∙ q))))
 
 tally-of-requires : tie.Need-tally-of-requires
 tally-of-requires c κs =
-    let p = c .before .before .before .before .before .before .before .before .before .pre in
+    let asked = c .before in
+    let p = entry (asked .before .before .before .before) .pre in
     slot-on (p .0 .points) (omega (arith, p .0 .last, p .1)) .within
 
 stamp-of-requires : tie.Need-stamp-of-requires
 stamp-of-requires c κs =
-    let p = c .before .before .before .before .before .before .before .before .before .before .pre in
+    let asked = c .before .before in
+    let p = entry (asked .before .before .before .before) .pre in
     slot-on (p .0 .points) (omega (arith, p .0 .last, p .1)) .within
 
 returns-4 : tie.Need-returns-4
@@ -60,7 +66,7 @@ returns-4 c =
     let u = c .before .before in
     let t = u .before .before in
     let k = t .before .before .before in
-    let a = k .before .before .before .before .args in
+    let a = entry k .args in
     rw (k .pass .ensures, k .before .key-of .ensures, c .before .tally-of .ensures, c .stamp-of .ensures)
     (sym (gone-found (a .e .now) (a .m) (a .covered) (rw (k .before .key-of .ensures) at (t .before .if1 .left)) (t .if2 .left)
     (sym (u .before .kind-of .ensures) ∙ u .if3 .left)))

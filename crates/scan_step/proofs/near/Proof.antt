@@ -1,4 +1,4 @@
--- `scan_step::near` meets its contract: each way out is a branch of the definition.
+-- `scan_step::near`: each way out is a branch of the definition: nothing is left, the docket lies past the fence, or the record is passed.
 use mathlib.Core.Path.{sym}
 use borrow.Author.Needs.{needs}
 use Rattle.scan_step.proofs.Branches.{neared-none, neared-fenced, neared-gone}

@@ -12,7 +12,6 @@ use Rattle.tables.specs.Rows.{settings-of, level-row}
 use Rattle.tables.specs.Sound.{chain-from}
 use Rattle.table_levels.specs.declared.Level.{Level}
 use Rattle.table_levels.specs.Levels.{level-at}
-use Rattle.chain_cover.specs.Walks.{Ordered}
 use Rattle.chain_cover.specs.Skips.{first-slot, beginning}
 use Rattle.scan_heads.specs.declared.Heads.{Heads}
 use Rattle.scan_heads.specs.Heads.{head-at, pushed}

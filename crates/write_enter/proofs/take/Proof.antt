@@ -6,14 +6,13 @@ use Prim.Native.Nat.{ℕ}
 use native.Mathlib.Omega.{arith}
 use lib.ListN.{length}
 use Rattle.lists.specs.All.{Exists}
-use Rattle.tables.specs.Slots.{InTable, set-slot, slot-at, first-free, with-link}
+use Rattle.tables.specs.Slots.{InTable, slot-at, set-slot, first-free, with-link}
 use Rattle.tables.specs.Placed.{cell-slot}
 use Rattle.tables.proofs.Slots.{length-set-slot}
 use Rattle.write_record.specs.Records.{record-cell}
 use Rattle.write_record.specs.declared.Record.{Record}
 use Rattle.write_enter.specs.Taking.{FreeHeld}
 use Rattle.write_enter.proofs.Takes.{first-slot, first-in-table, take-ends}
-use borrow.Author.Needs.{needs}
 use Rattle.write_enter.proofs.take.Statement.{statement}
 use Rattle.write_enter.proofs.take.Tie as tie
 
