@@ -8,8 +8,8 @@ use Rattle.model.specs.Steps.{begin, pass}
 use Rattle.model.specs.Calls as model
 use Rattle.tables.specs.Placed.{entry-words, level-words}
 use Rattle.merge_levels.specs.Laid.{Store, Laid}
-use Rattle.call_refusal.specs.declared.Answer.{Answer}
-use Rattle.call_refusal.specs.Coded.{answer-of}
+use Rattle.call_end.specs.declared.Answer.{Answer}
+use Rattle.call_end.specs.Coded.{answer-of}
 
 -- The level table of a state whose records the slots can hold.
 pub record RowsAre (p : State ℕ ℕ) (l : List ℕ) : Type 0 where

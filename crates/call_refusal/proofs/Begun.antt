@@ -10,7 +10,7 @@ use lib.ListN.{length}
 use borrow.Author.Tests.{eq-eqb, ne-eqb, eqb-false, ltb-false, lt-ltb, le-ltb}
 use Rattle.lists.proofs.Bools.{or-false-left, or-false-right}
 use Rattle.model.specs.Records.{State}
-use Rattle.model.specs.Calls.{Op, Call, Answer, refusing, bad-docket, bad-clock, refused, step}
+use Rattle.model.specs.Calls.{Op, Call, refusing, bad-docket, bad-clock, refused, step}
 use Rattle.tables.specs.Words.{Fits32, slots-of, clock-of}
 use Rattle.tables.specs.Sound.{table-refusal}
 use Rattle.tables.specs.Placed.{read-state, level-words}
@@ -21,16 +21,11 @@ use Rattle.tables.proofs.SoundWords.{sound-facts}
 use Rattle.tables.proofs.FormedSteps.{timed-formed}
 use Rattle.check_refusal.specs.Dockets.{bad-dockets, docket-refusal}
 use Rattle.check_refusal.proofs.Refusals.{allowed-sound, allowed-dockets}
-use Rattle.call_tables.specs.Calls.{Tables, words, call-tables}
-use Rattle.merge_levels.specs.Laid.{Store, Laid}
-use Rattle.call_refusal.specs.declared.Answer as coded
-use Rattle.call_refusal.specs.Coded.{answer-of, lent, called, call-refusal, Began}
+use Rattle.call_tables.specs.Calls.{Tables, words, lent, call-tables}
+use Rattle.merge_levels.specs.Laid.{Laid}
+use Rattle.call_refusal.specs.Began.{call-refusal, Began, store}
 
--- The store in the tables, at the time of the call.
-abbrev pub store : List ℕ → List ℕ → ℕ → Store
-store e l t = record { slots = slots-of e; time = t; state = read-state e l }
-
-module _ (e l : List ℕ) (t : ℕ) (op : Op ℕ) (b : Began e l t op) where
+module _ {e l : List ℕ} {t : ℕ} {op : Op ℕ} (b : Began e l t op) where
   from-1 : t ≢ 0
   from-1 = eqb-false t 0 (or-false-left (eqb t 0) (ltb t (clock-of e)) (b .time))
 
@@ -60,8 +55,7 @@ module _ (e l : List ℕ) (fits : Fits32 e) (sound : table-refusal e l ≡ 0) wh
   written-again : words (slots-of e) (read-state e l) ≡ lent e l
   written-again =
       let f = sound-words e l fits sound in
-      ap (λ (x : List ℕ). record { entries = x; levels = level-words (read-state e l) }) (sym (f .entries))
-      ∙ ap (λ (y : List ℕ). record { entries = e; levels = y }) (sym (f .levels))
+      ap (λ (x : List ℕ). lent x (level-words (read-state e l))) (sym (f .entries)) ∙ ap (lent e) (sym (f .levels))
 
   -- A refusal of the step leaves the words as they are.
   pub kept-words : (c : Call ℕ) (n : ℕ) → step (read-state e l) c ≡ refused n (read-state e l) → call-tables (lent e l) c ≡ record { tables = lent e l; answer = refusing n }
@@ -69,7 +63,7 @@ module _ (e l : List ℕ) (fits : Fits32 e) (sound : table-refusal e l ≡ 0) wh
   kept-words c n q = rw (sound, q) (ap (λ (w : Tables). record { tables = w; answer = refusing n }) written-again)
 
 -- The number that the code's tests give, one way out after the other.
-module _ (e l : List ℕ) (t lo hi r : ℕ) (checked : r ≡ docket-refusal e l lo hi) where
+module _ (e l : List ℕ) (t lo hi : ℕ) {r : ℕ} (checked : r ≡ docket-refusal e l lo hi) where
   pub refused-dockets : r ≢ 0 → r ≡ call-refusal e l t lo hi
   refused-dockets h = rw (← checked, ne-eqb r 0 h)
 
@@ -88,13 +82,14 @@ module _ (e l : List ℕ) (t lo hi r : ℕ) (checked : r ≡ docket-refusal e l 
 pub sound-slot-zero : (e l : List ℕ) → table-refusal e l ≡ 0 → 3 < length e
 sound-slot-zero e l h = let f = sound-facts e l h in omega (arith, f .length-entries, f .few)
 
+-- A call that names the dockets from lo to hi.
 module _ (e l : List ℕ) (t lo hi : ℕ) (op : Op ℕ) (fits : Fits32 e) (dockets : bad-docket op ≡ bad-dockets lo hi) where
   abbrev call : Call ℕ
   call = record { clock = t; op = op }
 
-  -- Where none of 1 to 5 is met the call begins.
-  pub begun : call-refusal e l t lo hi ≡ 0 → Began e l t op
-  begun = go (docket-refusal e l lo hi) (bad-clock t (clock-of e)) refl refl
+  -- Where the number that the code found is none of 1 to 5 the call begins.
+  pub begun : {n : ℕ} → n ≡ call-refusal e l t lo hi → n ≡ 0 → Began e l t op
+  begun found none = go (docket-refusal e l lo hi) (bad-clock t (clock-of e)) refl refl (sym found ∙ none)
     where
       some : {a : ℕ} → suc a ≢ 0
       some h = absurd (omega arith)
@@ -139,7 +134,3 @@ module _ (e l : List ℕ) (t lo hi : ℕ) (op : Op ℕ) (fits : Fits32 e) (docke
       go (suc a) d b p q r h =
           let some : eqb (suc a) 0 ≡ false = ne-eqb (suc a) 0 (omega arith) in
           rw (some, some) (unsound a p)
-
-  -- A call that is turned away by the number that the code found.
-  pub away : (r : coded.Answer) (n : ℕ) → n ≡ call-refusal e l t lo hi → n ≢ 0 → answer-of r ≡ refusing n → called e l r ≡ call-tables (lent e l) call
-  away r n q h a = rw a (ap (λ k. record { tables = lent e l; answer = refusing k }) q ∙ sym (turned-away (λ z. h (q ∙ z))))
