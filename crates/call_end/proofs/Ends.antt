@@ -29,6 +29,16 @@ pub formed-whole : (n : ℕ) (p : State ℕ ℕ) → Formed n p → Whole n p
 formed-whole n p f =
     let b = allowed-bounds (p .settings) (f .settings-ok) in
     record {
-      formed = record { deep = b .deepest-low; wide = b .ratio-low; size = f .size; ordered = all-weaken _ _ (λ l g. g .points-ascend) (p .levels) (f .levels-ok) };
-      all = omega (arith, length-append (p .free) (levels-slots (p .levels)), held-slots (p .levels), once-facts n (p .free ++ levels-slots (p .levels)) (f .slots-once) .number);
+      formed = record {
+        deep = b .deepest-low;
+        wide = b .ratio-low;
+        size = f .size;
+        ordered = all-weaken _ _ (λ l g. g .points-ascend) (p .levels) (f .levels-ok);
+      };
+      all = omega (
+        arith,
+        length-append (p .free) (levels-slots (p .levels)),
+        held-slots (p .levels),
+        once-facts n (p .free ++ levels-slots (p .levels)) (f .slots-once) .number,
+      );
     }

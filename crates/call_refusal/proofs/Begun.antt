@@ -13,7 +13,7 @@ use Rattle.model.specs.Records.{State}
 use Rattle.model.specs.Calls.{Op, Call, refusing, bad-docket, bad-clock, refused, step}
 use Rattle.tables.specs.Words.{Fits32, slots-of, clock-of}
 use Rattle.tables.specs.Sound.{table-refusal}
-use Rattle.tables.specs.Placed.{read-state, level-words}
+use Rattle.tables.specs.Placed.{read-state}
 use Rattle.tables.specs.Formed.{Formed}
 use Rattle.tables.proofs.Back.{formed-holds}
 use Rattle.tables.proofs.FormedSound.{sound-words}
@@ -21,7 +21,8 @@ use Rattle.tables.proofs.SoundWords.{sound-facts}
 use Rattle.tables.proofs.FormedSteps.{timed-formed}
 use Rattle.check_refusal.specs.Dockets.{bad-dockets, docket-refusal}
 use Rattle.check_refusal.proofs.Refusals.{allowed-sound, allowed-dockets}
-use Rattle.call_tables.specs.Calls.{Tables, words, lent, call-tables}
+use Rattle.call_tables.specs.Calls.{Tables, lent, call-tables}
+use Rattle.call_tables.proofs.Runs.{rewritten}
 use Rattle.merge_levels.specs.Laid.{Laid}
 use Rattle.call_refusal.specs.Began.{call-refusal, Began, store}
 
@@ -50,17 +51,11 @@ module _ {e l : List ℕ} {t : ℕ} {op : Op ℕ} (b : Began e l t op) where
     levels = sound-words e l (b .fits) (b .sound) .levels;
   }
 
--- Sound tables are the words of what they read as.
-module _ (e l : List ℕ) (fits : Fits32 e) (sound : table-refusal e l ≡ 0) where
-  written-again : words (slots-of e) (read-state e l) ≡ lent e l
-  written-again =
-      let f = sound-words e l fits sound in
-      ap (λ (x : List ℕ). lent x (level-words (read-state e l))) (sym (f .entries)) ∙ ap (lent e) (sym (f .levels))
-
-  -- A refusal of the step leaves the words as they are.
-  pub kept-words : (c : Call ℕ) (n : ℕ) → step (read-state e l) c ≡ refused n (read-state e l) → call-tables (lent e l) c ≡ record { tables = lent e l; answer = refusing n }
-  unfolding call-tables
-  kept-words c n q = rw (sound, q) (ap (λ (w : Tables). record { tables = w; answer = refusing n }) written-again)
+-- On sound tables a refusal of the step leaves the words as they are.
+kept-words : (e l : List ℕ) → Fits32 e → table-refusal e l ≡ 0 → (c : Call ℕ) (n : ℕ) → step (read-state e l) c ≡ refused n (read-state e l)
+    → call-tables (lent e l) c ≡ record { tables = lent e l; answer = refusing n }
+unfolding call-tables
+kept-words e l fits sound c n q = rw (sound, q) (ap (λ (w : Tables). record { tables = w; answer = refusing n }) (rewritten (lent e l) fits sound))
 
 -- The number that the code's tests give, one way out after the other.
 module _ (e l : List ℕ) (t lo hi : ℕ) {r : ℕ} (checked : r ≡ docket-refusal e l lo hi) where

@@ -7,8 +7,8 @@ use Prim.Native.Nat.{ℕ, _+_, _-_, _<_, _≤_}
 use native.Mathlib.Omega.{arith}
 use Rattle.settings.proofs.Allowed.{allowed-bounds}
 use Rattle.model.specs.Records.{State, held-all}
-use Rattle.model.specs.Steps.{Work, Write, begin, merge-level, merge-all, crowded, make-room, write, pass}
-use Rattle.model.specs.Calls.{Op, written, flush, tick, Call, Outcome, refusing, count-written, timed, prepared, out-of-slots, bad-docket, step}
+use Rattle.model.specs.Steps.{Work, begin, merge-all, crowded, make-room, write, pass}
+use Rattle.model.specs.Calls.{Op, written, flush, tick, Call, refusing, count-written, timed, prepared, bad-docket, step}
 use Rattle.model.proofs.StepView.{worked, accepted-outcome, step-accepts, step-refuses}
 use Rattle.model.proofs.Numbers.{held-most, merge-level-merges, merge-all-merges}
 use Rattle.model.proofs.Counted.{add, pass-after}
@@ -92,7 +92,8 @@ module _ {e l : List ℕ} {t : ℕ} {op : Op ℕ} (b : Began e l t op) where
       pub ending : Ending (at-state (store e l t) (work .state)) e′ l′ t before (r .merges)
       ending = record { laid = d .works done .laid; time-is = refl; few = rw (d .works done .counts) few; enough = rw adds enough }
 
-      pub ends : {e″ l″ : List ℕ} {a : Answer} → Ended (at-state (store e l t) (work .state)) t before (r .merges) e″ l″ a → called e″ l″ a ≡ call-tables (lent e l) c
+      pub ends : {e″ l″ : List ℕ} {a : Answer} → Ended (at-state (store e l t) (work .state)) t before (r .merges) e″ l″ a
+          → called e″ l″ a ≡ call-tables (lent e l) c
       ends f =
           rw (f .entries, f .levels, f .answer, d .works done .counts, adds)
           (sym (call-steps ∙ ap (wrote (slots-of e)) (step-accepts p c (b .dockets) (begun-time b) (sym (d .full-is) ∙ done) ∙ accepted-is)))

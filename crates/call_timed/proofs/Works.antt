@@ -33,7 +33,8 @@ written-most tick = omega arith
 
 -- A flush has merged the buffer when its pass begins, a tick nothing.
 module _ {e l : List ℕ} {t : ℕ} {e′ l′ : List ℕ} where
-  pub flushes : {m : ℕ} → Worked (store e l t) (merge-level 0 (begin (read-state e l))) e′ l′ m → Prepares e l t flush e′ l′ (record { full = false; merges = m })
+  pub flushes : {m : ℕ} → Worked (store e l t) (merge-level 0 (begin (read-state e l))) e′ l′ m
+      → Prepares e l t flush e′ l′ (record { full = false; merges = m })
   unfolding prepared
   flushes w = record { full-is = refl; works = λ _. w; merged = λ f. absurd (false≢true f) }
 

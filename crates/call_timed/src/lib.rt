@@ -134,28 +134,8 @@ fn prepare(entries: &mut [u32], levels: &mut [u32], clock: u32, op: Op) -> Prepa
     ensures { λ r. ⌜ Prepares (now (entries .entry)) (now (levels .entry)) clock (op-of op) (now (entries .exit)) (now (levels .exit)) r ⌝ }
 {
     match op {
-        Op::Put(docket, tally) => write(
-            entries,
-            levels,
-            clock,
-            Record {
-                kind: PUT,
-                lo: docket,
-                hi: docket,
-                tally: tally,
-            },
-        ),
-        Op::Delete(docket) => write(
-            entries,
-            levels,
-            clock,
-            Record {
-                kind: DELETE,
-                lo: docket,
-                hi: docket,
-                tally: 0,
-            },
-        ),
+        Op::Put(docket, tally) => write(entries, levels, clock, point_record(PUT, docket, tally)),
+        Op::Delete(docket) => write(entries, levels, clock, point_record(DELETE, docket, 0)),
         Op::DeleteRange(lo, hi) => write(
             entries,
             levels,
@@ -175,5 +155,17 @@ fn prepare(entries: &mut [u32], levels: &mut [u32], clock: u32, op: Op) -> Prepa
             full: false,
             merges: 0,
         },
+    }
+}
+
+// The record of a put or a delete of one docket.
+fn point_record(kind: u32, docket: u32, tally: u32) -> Record
+    ensures { λ r. ⌜ r ≡ record { kind = kind; lo = docket; hi = docket; tally = tally } ⌝ }
+{
+    Record {
+        kind: kind,
+        lo: docket,
+        hi: docket,
+        tally: tally,
     }
 }

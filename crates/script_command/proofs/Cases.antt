@@ -4,7 +4,8 @@ use Rattle.lists.specs.Lists.{any, every, count, select, sum, merge, iterate}
 use Rattle.settings.specs.Limits.{allowed, power, capacity, limit}
 use Rattle.model.specs.Records.{fresh}
 use Rattle.model.specs.Merge.{later, merged, settled, joined, freed}
-use Rattle.model.specs.Steps.{single, merge-state, merge-level, merge-all, enter-at, enter, set-points, wipe, act-deepest, crowded, make-room, full, write, no-slot, buffer-due, due, pass-buffer, pass-level, pass, still-due}
+use Rattle.model.specs.Steps.{single, merge-state, merge-level, merge-all, enter-at, enter, set-points, wipe, act-deepest, crowded, make-room, full, write}
+use Rattle.model.specs.Steps.{no-slot, buffer-due, due, pass-buffer, pass-level, pass, still-due}
 use Rattle.model.specs.Lookup.{find, lookup}
 use Rattle.model.specs.Calls.{prepared, finish, step}
 use Rattle.tables.specs.Words.{set-row}
@@ -22,7 +23,11 @@ use Rattle.script_command.specs.Script.{command-step, line-step}
 use Rattle.script_command.specs.Cases.{prints, CaseTable}
 
 pub cases : CaseTable
-unfolding any every count select sum merge iterate allowed power capacity limit fresh later merged settled joined freed single merge-state merge-level merge-all enter-at enter set-points wipe act-deepest crowded make-room full write no-slot buffer-due due pass-buffer pass-level pass still-due find lookup prepared finish step set-row chain ascend level-sound levels-sound record-slots once-each chains-sound entries-fit levels-fit table-refusal read-levels read-state lay lay-all entry-words row-words level-words free-words made-entries made-levels make-tables lookup-tables call-tables digits decimal fields line-of bytes makes does finds command-step line-step prints
+unfolding any every count select sum merge iterate allowed power capacity limit fresh later merged settled joined freed single merge-state merge-level
+    merge-all enter-at enter set-points wipe act-deepest crowded make-room full write no-slot buffer-due due pass-buffer pass-level pass
+    still-due find lookup prepared finish step set-row chain ascend level-sound levels-sound record-slots once-each chains-sound entries-fit
+    levels-fit table-refusal read-levels read-state lay lay-all entry-words row-words level-words free-words made-entries made-levels
+    make-tables lookup-tables call-tables digits decimal fields line-of bytes makes does finds command-step line-step prints
 cases = record {
   script = refl;
   before-a-make = refl;

@@ -53,7 +53,8 @@ answers-alone n m = record { memory = m; printed = record { first = n; second = 
 abbrev pub level-room : ℕ → ℕ
 level-room deepest = cond (ltb 6 deepest) 32 (level-length deepest)
 
--- "N above 4,000 … is 9"; a making of settings that are out of range is refused whatever the level table's length. "A later M makes the store anew; a refused one leaves the store there was."
+-- "N above 4,000 … is 9"; a making of settings that are out of range is refused whatever the level table's length.
+-- "A later M makes the store anew; a refused one leaves the store there was."
 unfoldable pub makes : ℕ → Settings → Memory → Stepped
 makes n s m =
     let r = make-tables (take (entry-length n) (m .entries)) (take (level-room (s .deepest)) (m .levels)) s in

@@ -1,7 +1,6 @@
--- `call_end::finish`: the pass leaves the store that the definition's pass leaves; the clock is set after it, and what has gone is what there was less the sum of its levels.
+-- `call_end::finish`: the pass leaves the definition's state, the clock is set after it, and what has gone is what there was less what its levels hold.
 use native.Mathlib.Omega.{arith}
 use borrow.Author.Needs.{needs}
-use Prim.Native.Nat.{ℕ}
 use Rattle.merge_levels.specs.Laid.{Store, Worked}
 use Rattle.model.specs.Steps.{begin, pass}
 use Rattle.call_end.specs.Ending.{Ending}

@@ -15,7 +15,10 @@ docket-refusal-requires : tie.Need-docket-refusal-requires
 docket-refusal-requires c κs = search needs
 
 returns : tie.Need-returns
-returns c = let asked = c .before in let a = entry asked .args in refused-dockets _ _ (a .clock) (a .lo) (a .hi) (asked .docket-refusal .ensures) (c .if1 .taken)
+returns c =
+    let asked = c .before in
+    let a = entry asked .args in
+    refused-dockets _ _ (a .clock) (a .lo) (a .hi) (asked .docket-refusal .ensures) (c .if1 .taken)
 
 returns-2 : tie.Need-returns-2
 returns-2 c =

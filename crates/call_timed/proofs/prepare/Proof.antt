@@ -31,18 +31,24 @@ prepares s is d = rw is d
 enum-known-op : tie.Need-enum-known-op
 enum-known-op c = search needs
 
+point-record-requires : tie.Need-point-record-requires
+point-record-requires c κs = search needs
+
 write-requires : tie.Need-write-requires
 write-requires c κs =
-    let arm = c .before .before .before in
-    record { value = put _ _; has = record { began = begun (entry (arm .before .before)) (arm .op .given .1); write-is = refl } }
+    let arm = c .before .before .before .before in
+    record { value = put _ _; has = record { began = begun (entry (arm .before .before)) (arm .op .given .1); write-is = c .point-record .ensures } }
 
 enum-known-op-2 : tie.Need-enum-known-op-2
 enum-known-op-2 c = search needs
 
+point-record-requires-2 : tie.Need-point-record-requires-2
+point-record-requires-2 c κs = search needs
+
 write-requires-2 : tie.Need-write-requires-2
 write-requires-2 c κs =
-    let arm = c .before .before .before in
-    record { value = delete _; has = record { began = begun (entry (arm .before .before)) (arm .op2 .given .1); write-is = refl } }
+    let arm = c .before .before .before .before in
+    record { value = delete _; has = record { began = begun (entry (arm .before .before)) (arm .op2 .given .1); write-is = c .point-record2 .ensures } }
 
 enum-known-op-3 : tie.Need-enum-known-op-3
 enum-known-op-3 c = search needs
@@ -73,10 +79,11 @@ same-length-2 c = search needs
 returns : tie.Need-returns
 returns c =
     let wrote = c .before .before .before .before in
-    let arm = wrote .before .before .before .before in
+    let made = wrote .before in
+    let arm = made .before .before .before .before in
     let s = entry (arm .before .before) in
     let is = arm .op .given .1 in
-    prepares s is (wrote .write .ensures _ (record { began = begun s is; write-is = refl }))
+    prepares s is (wrote .write .ensures _ (record { began = begun s is; write-is = made .point-record .ensures }))
 
 same-length-3 : tie.Need-same-length-3
 same-length-3 c = search needs
@@ -87,10 +94,11 @@ same-length-4 c = search needs
 returns-2 : tie.Need-returns-2
 returns-2 c =
     let wrote = c .before .before .before .before in
-    let arm = wrote .before .before .before .before in
+    let made = wrote .before in
+    let arm = made .before .before .before .before in
     let s = entry (arm .before .before) in
     let is = arm .op2 .given .1 in
-    prepares s is (wrote .write2 .ensures _ (record { began = begun s is; write-is = refl }))
+    prepares s is (wrote .write2 .ensures _ (record { began = begun s is; write-is = made .point-record2 .ensures }))
 
 same-length-5 : tie.Need-same-length-5
 same-length-5 c = search needs
@@ -132,8 +140,10 @@ prepare-spec =
     tie.close
     (tie.spec
     enum-known-op
+    point-record-requires
     write-requires
     enum-known-op-2
+    point-record-requires-2
     write-requires-2
     enum-known-op-3
     write-requires-3

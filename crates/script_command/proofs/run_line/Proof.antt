@@ -68,7 +68,8 @@ returns-2 c =
     let k = done .run-command in
     let e = k .last .1 .0 in
     let l = k .last .1 .1 .0 in
-    let is = commanded (line-of (s .args .text .now)) (command .given .0 .0) (M s) (stepped e l (k .result)) (sym (at .read-line .ensures) ∙ command .given .1) (k .ensures) in
+    let is = commanded (line-of (s .args .text .now)) (command .given .0 .0) (M s) (stepped e l (k .result))
+    (sym (at .read-line .ensures) ∙ command .given .1) (k .ensures) in
     (is, fits-then s e l (k .result) (k .kept .1 .0) (k .kept .1 .1 .0) is)
 
 pub run-line-spec : {M : Type 1} → statement M

@@ -1,6 +1,5 @@
 -- `script_store::run_lookup`: the lookup reads the words of the store alone, and each of its answers prints its numbers.
 use mathlib.Core.Path.{_≡_, refl, sym, _∙_}
-use mathlib.Core.List.{List}
 use borrow.Author.Needs.{needs}
 use Rattle.lookup.specs.declared.Answer.{Answer}
 use Rattle.lookup.specs.Lookup.{numbers}
@@ -21,7 +20,8 @@ lent c = c .before .before .before
 
 -- What is printed for the answer a that was found.
 prints : (c : tie.After-lookup) (a : Answer) {r : Turn} → c .lookup .result ≡ a
-    → let s = entry (lent c) .args in r ≡ record { slots = s .size .slots; deepest = s .size .deepest; first = numbers a .refusal; second = numbers a .found; third = numbers a .tally }
+    → let s = entry (lent c) .args in
+    r ≡ record { slots = s .size .slots; deepest = s .size .deepest; first = numbers a .refusal; second = numbers a .found; third = numbers a .tally }
     → stepped (s .entries .now) (s .levels .now) r ≡ finds (s .key) (memory (s .entries .now) (s .levels .now) (s .size))
 prints c a is =
     let at = lent c in
