@@ -8,6 +8,7 @@ use native.Mathlib.Omega.{arith}
 use lib.Dec.{eqb, ltb}
 use lib.ListN.{length}
 use borrow.Author.Tests.{eq-eqb, ne-eqb, eqb-false, ltb-false, lt-ltb, le-ltb}
+use Rattle.settings.proofs.Allowed.{allowed-bounds}
 use Rattle.lists.proofs.Bools.{or-false-left, or-false-right}
 use Rattle.model.specs.Records.{State}
 use Rattle.model.specs.Calls.{Op, Call, refusing, bad-docket, bad-clock, refused, step}
@@ -21,7 +22,7 @@ use Rattle.tables.proofs.SoundWords.{sound-facts}
 use Rattle.tables.proofs.FormedSteps.{timed-formed}
 use Rattle.check_refusal.specs.Dockets.{bad-dockets, docket-refusal}
 use Rattle.check_refusal.proofs.Refusals.{allowed-sound, allowed-dockets}
-use Rattle.call_tables.specs.Calls.{Tables, lent, call-tables}
+use Rattle.call_tables.specs.Calls.{Tables, Called, lent, call-tables}
 use Rattle.call_tables.proofs.Runs.{rewritten}
 use Rattle.merge_levels.specs.Laid.{Laid}
 use Rattle.call_refusal.specs.Began.{call-refusal, Began, store}
@@ -42,6 +43,9 @@ module _ {e l : List ℕ} {t : ℕ} {op : Op ℕ} (b : Began e l t op) where
 
   pub begun-formed : Formed (slots-of e) (read-state e l)
   begun-formed = sound-words e l (b .fits) (b .sound) .formed
+
+  pub begun-deep : 0 < read-state e l .settings .deepest
+  begun-deep = omega (arith, allowed-bounds (read-state e l .settings) (begun-formed .settings-ok) .deepest-low)
 
   pub begun-laid : Laid (store e l t) e l
   unfolding read-state
@@ -77,22 +81,35 @@ module _ (e l : List ℕ) (t lo hi : ℕ) {r : ℕ} (checked : r ≡ docket-refu
 pub sound-slot-zero : (e l : List ℕ) → table-refusal e l ≡ 0 → 3 < length e
 sound-slot-zero e l h = let f = sound-facts e l h in omega (arith, f .length-entries, f .few)
 
--- A call that names the dockets from lo to hi.
-module _ (e l : List ℕ) (t lo hi : ℕ) (op : Op ℕ) (fits : Fits32 e) (dockets : bad-docket op ≡ bad-dockets lo hi) where
+-- The number n was found for a call that names the dockets from lo to hi.
+pub record Asked (e l : List ℕ) (t : ℕ) (op : Op ℕ) (n : ℕ) : Type 0 where
+  pub lo : ℕ
+  pub hi : ℕ
+  pub fits : Fits32 e
+  pub dockets : bad-docket op ≡ bad-dockets lo hi
+  pub number : n ≡ call-refusal e l t lo hi
+
+module _ {e l : List ℕ} {t : ℕ} {op : Op ℕ} {n : ℕ} (a : Asked e l t op n) where
   abbrev call : Call ℕ
   call = record { clock = t; op = op }
 
-  -- Where the number that the code found is none of 1 to 5 the call begins.
-  pub begun : {n : ℕ} → n ≡ call-refusal e l t lo hi → n ≡ 0 → Began e l t op
-  begun found none = go (docket-refusal e l lo hi) (bad-clock t (clock-of e)) refl refl (sym found ∙ none)
+  abbrev lo : ℕ
+  lo = a .lo
+
+  abbrev hi : ℕ
+  hi = a .hi
+
+  -- Where it is none of 1 to 5 the call begins.
+  pub begun : n ≡ 0 → Began e l t op
+  begun none = go (docket-refusal e l lo hi) (bad-clock t (clock-of e)) refl refl (sym (a .number) ∙ none)
     where
-      some : {a : ℕ} → suc a ≢ 0
+      some : {m : ℕ} → suc m ≢ 0
       some h = absurd (omega arith)
 
-      go : (n : ℕ) (b : Bool) → docket-refusal e l lo hi ≡ n → bad-clock t (clock-of e) ≡ b → cond (eqb n 0) (cond b 5 0) n ≡ 0 → Began e l t op
-      go zero false q r h = record { sound = allowed-sound e l lo hi q; fits = fits; dockets = dockets ∙ allowed-dockets e l lo hi q; time = r }
+      go : (m : ℕ) (b : Bool) → docket-refusal e l lo hi ≡ m → bad-clock t (clock-of e) ≡ b → cond (eqb m 0) (cond b 5 0) m ≡ 0 → Began e l t op
+      go zero false q r h = record { sound = allowed-sound e l lo hi q; fits = a .fits; dockets = a .dockets ∙ allowed-dockets e l lo hi q; time = r }
       go zero true q r h = absurd (omega arith)
-      go (suc a) b q r h = absurd (some (rw (ne-eqb (suc a) 0 (omega arith)) at h))
+      go (suc m) b q r h = absurd (some (rw (ne-eqb (suc m) 0 (omega arith)) at h))
 
   steps-4 : (p : State ℕ ℕ) → bad-docket op ≡ true → step p call ≡ refused 4 p
   unfolding step
@@ -106,26 +123,33 @@ module _ (e l : List ℕ) (t lo hi : ℕ) (op : Op ℕ) (fits : Fits32 e) (docke
   unfolding read-state
   read-clock = refl
 
-  unsound : (a : ℕ) → table-refusal e l ≡ suc a → call-tables (lent e l) call ≡ record { tables = lent e l; answer = refusing (suc a) }
+  -- What a call answers that is refused by the number m: no word changes.
+  abbrev kept : ℕ → Called
+  kept m = record { tables = lent e l; answer = refusing m }
+
+  unsound : (m : ℕ) → table-refusal e l ≡ suc m → call-tables (lent e l) call ≡ kept (suc m)
   unfolding call-tables
-  unsound a q = rw (q, ne-eqb (suc a) 0 (omega arith))
+  unsound m q = rw (q, ne-eqb (suc m) 0 (omega arith))
 
   -- The tests of a call's refusals, in their order.
   abbrev first-four : ℕ → Bool → ℕ
   first-four tables docket = cond (eqb tables 0) (cond docket 4 0) tables
 
-  abbrev number : ℕ → Bool → Bool → ℕ
-  number tables docket clock = cond (eqb (first-four tables docket) 0) (cond clock 5 0) (first-four tables docket)
+  abbrev first-five : ℕ → Bool → Bool → ℕ
+  first-five tables docket clock = cond (eqb (first-four tables docket) 0) (cond clock 5 0) (first-four tables docket)
 
-  -- The first of them that is met is what the call answers, and no word changes.
-  pub turned-away : call-refusal e l t lo hi ≢ 0 → call-tables (lent e l) call ≡ record { tables = lent e l; answer = refusing (call-refusal e l t lo hi) }
-  turned-away = go (table-refusal e l) (bad-dockets lo hi) (bad-clock t (clock-of e)) refl refl refl
+  -- The first of them that is met is what the call answers.
+  first-met : call-refusal e l t lo hi ≢ 0 → call-tables (lent e l) call ≡ kept (call-refusal e l t lo hi)
+  first-met = go (table-refusal e l) (bad-dockets lo hi) (bad-clock t (clock-of e)) refl refl refl
     where
-      go : (a : ℕ) (d b : Bool) → table-refusal e l ≡ a → bad-dockets lo hi ≡ d → bad-clock t (clock-of e) ≡ b
-          → number a d b ≢ 0 → call-tables (lent e l) call ≡ record { tables = lent e l; answer = refusing (number a d b) }
-      go zero true b p q r h = kept-words e l fits p call 4 (steps-4 (read-state e l) (dockets ∙ q))
-      go zero false true p q r h = kept-words e l fits p call 5 (steps-5 (read-state e l) (dockets ∙ q) (ap (bad-clock t) read-clock ∙ r))
+      go : (m : ℕ) (d b : Bool) → table-refusal e l ≡ m → bad-dockets lo hi ≡ d → bad-clock t (clock-of e) ≡ b
+          → first-five m d b ≢ 0 → call-tables (lent e l) call ≡ kept (first-five m d b)
+      go zero true b p q r h = kept-words e l (a .fits) p call 4 (steps-4 (read-state e l) (a .dockets ∙ q))
+      go zero false true p q r h = kept-words e l (a .fits) p call 5 (steps-5 (read-state e l) (a .dockets ∙ q) (ap (bad-clock t) read-clock ∙ r))
       go zero false false p q r h = absurd (h refl)
-      go (suc a) d b p q r h =
-          let some : eqb (suc a) 0 ≡ false = ne-eqb (suc a) 0 (omega arith) in
-          rw (some, some) (unsound a p)
+      go (suc m) d b p q r h =
+          let some : eqb (suc m) 0 ≡ false = ne-eqb (suc m) 0 (omega arith) in
+          rw (some, some) (unsound m p)
+
+  pub turned-away : n ≢ 0 → call-tables (lent e l) call ≡ kept n
+  turned-away some = rw (a .number) (first-met (λ z. some (a .number ∙ z)))

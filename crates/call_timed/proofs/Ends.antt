@@ -3,22 +3,21 @@ use mathlib.Core.Path.{_≡_, refl, sym, ap, _∙_}
 use mathlib.Core.Logic.{_≢_}
 use mathlib.Core.Bool.{Bool, true, false, cond}
 use mathlib.Core.List.{List}
-use Prim.Native.Nat.{ℕ, _+_, _-_, _<_, _≤_}
+use Prim.Native.Nat.{ℕ, _+_, _-_, _≤_}
 use native.Mathlib.Omega.{arith}
 use Rattle.settings.proofs.Allowed.{allowed-bounds}
 use Rattle.model.specs.Records.{State, held-all}
 use Rattle.model.specs.Steps.{Work, begin, merge-all, crowded, make-room, write, pass}
-use Rattle.model.specs.Calls.{Op, written, flush, tick, Call, refusing, count-written, timed, prepared, bad-docket, step}
+use Rattle.model.specs.Calls.{Op, written, flush, tick, Call, refusing, count-written, timed, prepared, step}
 use Rattle.model.proofs.StepView.{worked, accepted-outcome, step-accepts, step-refuses}
 use Rattle.model.proofs.Numbers.{held-most, merge-level-merges, merge-all-merges}
 use Rattle.model.proofs.Counted.{add, pass-after}
-use Rattle.tables.specs.Words.{Fits32, slots-of}
+use Rattle.tables.specs.Words.{slots-of}
 use Rattle.tables.specs.Placed.{read-state}
-use Rattle.check_refusal.specs.Dockets.{bad-dockets}
 use Rattle.call_tables.specs.Calls.{wrote, lent, call-tables}
 use Rattle.merge_levels.specs.Laid.{at-state}
-use Rattle.call_refusal.specs.Began.{call-refusal, Began, store}
-use Rattle.call_refusal.proofs.Begun.{begun-formed, begun-time, turned-away}
+use Rattle.call_refusal.specs.Began.{Began, store}
+use Rattle.call_refusal.proofs.Begun.{Asked, begun-formed, begun-time, turned-away}
 use Rattle.call_end.specs.declared.Answer.{Answer}
 use Rattle.call_end.specs.Coded.{answer-of, called}
 use Rattle.call_end.specs.Ending.{Ending, Ended}
@@ -27,10 +26,9 @@ use Rattle.call_write.specs.declared.Prepared.{Prepared}
 use Rattle.call_write.specs.Writing.{Prepares}
 
 -- A call that is turned away by the number that the code found.
-pub away : (e l : List ℕ) (t lo hi : ℕ) (op : Op ℕ) → Fits32 e → bad-docket op ≡ bad-dockets lo hi → (r : Answer) (n : ℕ)
-    → n ≡ call-refusal e l t lo hi → n ≢ 0 → answer-of r ≡ refusing n → called e l r ≡ call-tables (lent e l) (record { clock = t; op = op })
-away e l t lo hi op fits dockets r n q h a =
-    rw a (ap (λ k. record { tables = lent e l; answer = refusing k }) q ∙ sym (turned-away e l t lo hi op fits dockets (λ z. h (q ∙ z))))
+pub away : {e l : List ℕ} {t : ℕ} {op : Op ℕ} {n : ℕ} → Asked e l t op n → n ≢ 0 → (r : Answer) → answer-of r ≡ refusing n
+    → called e l r ≡ call-tables (lent e l) (record { clock = t; op = op })
+away asked some r q = rw q (sym (turned-away asked some))
 
 module _ {e l : List ℕ} {t : ℕ} {op : Op ℕ} (b : Began e l t op) where
   abbrev p : State ℕ ℕ
@@ -66,9 +64,6 @@ module _ {e l : List ℕ} {t : ℕ} {op : Op ℕ} (b : Began e l t op) where
   unfolding accepted-outcome
   accepted-is = rw worked-is
 
-  pub deep : 0 < p .settings .deepest
-  deep = omega (arith, allowed-bounds (p .settings) (begun-formed b .settings-ok) .deepest-low)
-
   -- The merges before the pass are few.
   few : work .merges ≤ 6
   unfolding prepared write make-room
@@ -87,8 +82,14 @@ module _ {e l : List ℕ} {t : ℕ} {op : Op ℕ} (b : Began e l t op) where
       go tick = omega arith
 
   -- The tables e′ and l′, once the call has done its work.
-  module _ {e′ l′ : List ℕ} {r : Prepared} (d : Prepares e l t op e′ l′ r) {before : ℕ} (adds : before ≡ held-all (p .levels) + count-written op) where
-    module _ (done : r .full ≡ false) where
+  module _ {e′ l′ : List ℕ} {r : Prepared} (d : Prepares e l t op e′ l′ r) where
+    -- A put that finds no slot: the tables stay merged, the clock as it was.
+    pub full : r .full ≡ true → {a : Answer} → answer-of a ≡ refusing 7 → called e′ l′ a ≡ call-tables (lent e l) c
+    full is q =
+        rw (d .merged is .0, d .merged is .1, q)
+        (sym (call-steps ∙ ap (wrote (slots-of e)) (step-refuses p c (b .dockets) (begun-time b) (sym (d .full-is) ∙ is))))
+
+    module _ (done : r .full ≡ false) {before : ℕ} (adds : before ≡ held-all (p .levels) + count-written op) where
       pub ending : Ending (at-state (store e l t) (work .state)) e′ l′ t before (r .merges)
       ending = record { laid = d .works done .laid; time-is = refl; few = rw (d .works done .counts) few; enough = rw adds enough }
 
@@ -97,9 +98,3 @@ module _ {e l : List ℕ} {t : ℕ} {op : Op ℕ} (b : Began e l t op) where
       ends f =
           rw (f .entries, f .levels, f .answer, d .works done .counts, adds)
           (sym (call-steps ∙ ap (wrote (slots-of e)) (step-accepts p c (b .dockets) (begun-time b) (sym (d .full-is) ∙ done) ∙ accepted-is)))
-
-    -- A put that finds no slot: the tables stay merged, the clock as it was.
-    pub full : r .full ≡ true → {a : Answer} → answer-of a ≡ refusing 7 → called e′ l′ a ≡ call-tables (lent e l) c
-    full is q =
-        rw (d .merged is .0, d .merged is .1, q)
-        (sym (call-steps ∙ ap (wrote (slots-of e)) (step-refuses p c (b .dockets) (begun-time b) (sym (d .full-is) ∙ is))))

@@ -3,9 +3,7 @@ use mathlib.Core.Path.{_≡_, refl, sym, ap, _∙_}
 use mathlib.Core.Logic.{_≢_}
 use mathlib.Core.Bool.{Bool, true, false, not, false≢true}
 use mathlib.Core.List.{List}
-use Prim.Native.Nat.{ℕ, _<_}
-use native.Mathlib.Omega.{arith}
-use Rattle.settings.proofs.Allowed.{allowed-bounds}
+use Prim.Native.Nat.{ℕ}
 use Rattle.lists.specs.Lists.{none}
 use Rattle.lists.proofs.Branches.{fails, holds}
 use Rattle.model.specs.Records.{State}
@@ -21,7 +19,7 @@ use Rattle.write_enter.specs.Entering.{Entering}
 use Rattle.write_act.specs.Acting.{Acted}
 use Rattle.merge_levels.specs.Laid.{Laid, Worked, at-state}
 use Rattle.call_refusal.specs.Began.{store}
-use Rattle.call_refusal.proofs.Begun.{begun-formed, begun-laid}
+use Rattle.call_refusal.proofs.Begun.{begun-formed, begun-deep, begun-laid}
 use Rattle.call_end.proofs.Laying.{no-free, some-free}
 use Rattle.call_write.specs.Writing.{Writes, Crowded, Prepares}
 use Rattle.call_write.proofs.Preparing.{Leads, enters, enters-room, enters-after, enters-after-room, no-slot-is, acts, merged-settings}
@@ -85,11 +83,8 @@ module _ {v : Write ℕ} {e l : List ℕ} {t : ℕ} {w : Record} (k : Crowded v 
     full : none (merged .free) ≡ true
     full = no-free (at-state (store e l t) merged) e′ l′ (d .laid) f
 
-    deep : 0 < p .settings .deepest
-    deep = omega (arith, allowed-bounds (p .settings) (begun-formed (k .writes .began) .settings-ok) .deepest-low)
-
     same : merged .settings ≡ p .settings
-    same = merged-settings p deep
+    same = merged-settings p (begun-deep (k .writes .began))
 
     leads : not done ≡ false → Leads t v p (act-deepest t v merged) m
     leads h = acts t v p (k .no-room) full same (holds (a .done-is) h) m (d .counts)

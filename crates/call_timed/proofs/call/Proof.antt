@@ -1,8 +1,7 @@
 -- `call_timed::call`: the number that the code finds is the first refusal that the call meets, and where there is none the call has begun.
 use native.Mathlib.Omega.{arith}
 use borrow.Author.Needs.{needs}
-use Rattle.tables.specs.Words.{Fits32}
-use Rattle.call_refusal.proofs.Begun.{begun}
+use Rattle.call_refusal.proofs.Begun.{Asked, begun}
 use Rattle.call_timed.specs.Ops.{op-of}
 use Rattle.call_timed.proofs.Ends.{away}
 use Rattle.call_timed.proofs.call.Statement.{statement}
@@ -15,8 +14,17 @@ entry c = c .before .before .before
 abbrev named : tie.After-refusal-of → tie.After-dockets
 named c = c .before .before .before
 
-fits : (c : tie.After-dockets) → Fits32 (entry c .args .entries .now)
-fits c i = omega (arith, c .before .before .slice-known .given i)
+asked : (c : tie.After-refusal-of) → let a = entry (named c) .args in
+    Asked (a .entries .now) (a .levels .now) (a .clock) (op-of (a .op)) (c .refusal-of .result)
+asked c =
+    let at = named c in
+    record {
+      lo = at .dockets .result .lo;
+      hi = at .dockets .result .hi;
+      fits = λ i. omega (arith, at .before .before .slice-known .given i);
+      dockets = at .dockets .ensures;
+      number = c .refusal-of .ensures;
+    }
 
 dockets-requires : tie.Need-dockets-requires
 dockets-requires c κs = search needs
@@ -34,23 +42,10 @@ same-length-2 : tie.Need-same-length-2
 same-length-2 c = search needs
 
 returns : tie.Need-returns
-returns c =
-    let asked = c .before .before in
-    let at = named asked in
-    let a = entry at .args in
-    let span = at .dockets .result in
-    away (a .entries .now) (a .levels .now) (a .clock) (span .lo) (span .hi) (op-of (a .op)) (fits at) (at .dockets .ensures) _ _
-    (asked .refusal-of .ensures) (c .before .if1 .taken) (c .refused .ensures)
+returns c = let then = c .before in away (asked (then .before)) (then .if1 .taken) _ (c .refused .ensures)
 
 carry-out-requires : tie.Need-carry-out-requires
-carry-out-requires c κs =
-    let else = c .before .before in
-    let asked = else .before in
-    let at = named asked in
-    let a = entry at .args in
-    let span = at .dockets .result in
-    begun (a .entries .now) (a .levels .now) (a .clock) (span .lo) (span .hi) (op-of (a .op)) (fits at) (at .dockets .ensures)
-    (asked .refusal-of .ensures) (else .if1 .left)
+carry-out-requires c κs = let else = c .before .before in begun (asked (else .before)) (else .if1 .left)
 
 same-length-3 : tie.Need-same-length-3
 same-length-3 c = search needs

@@ -53,13 +53,13 @@ same-length-2 c = search needs
 returns : tie.Need-returns
 returns c =
     let at = worked (c .before .before) in
-    full (entry (counted at) .pre) (at .prepare .ensures) (before-is (counted at)) (c .before .if1 .taken) (c .refused .ensures)
+    full (entry (counted at) .pre) (at .prepare .ensures) (c .before .if1 .taken) (c .refused .ensures)
 
 finish-requires : tie.Need-finish-requires
 finish-requires c κs =
     let else = c .before .before in
     let at = worked (else .before) in
-    record { value = _; has = ending (entry (counted at) .pre) (at .prepare .ensures) (before-is (counted at)) (else .if1 .left) }
+    record { value = _; has = ending (entry (counted at) .pre) (at .prepare .ensures) (else .if1 .left) (before-is (counted at)) }
 
 same-length-3 : tie.Need-same-length-3
 same-length-3 c = search needs
@@ -74,7 +74,8 @@ returns-2 c =
     let at = worked (else .before) in
     let b = entry (counted at) .pre in
     let done = else .if1 .left in
-    ends b (at .prepare .ensures) (before-is (counted at)) done (finished .finish .ensures _ (ending b (at .prepare .ensures) (before-is (counted at)) done))
+    let before = before-is (counted at) in
+    ends b (at .prepare .ensures) done before (finished .finish .ensures _ (ending b (at .prepare .ensures) done before))
 
 pub carry-out-spec : {M : Type 1} → statement M
 carry-out-spec =

@@ -5,13 +5,12 @@ use borrow.Author.Needs.{needs}
 use Prim.Native.Nat.{ℕ}
 use Rattle.model.specs.Steps.{put, delete, delete-range}
 use Rattle.call_refusal.specs.Began.{Began}
-use Rattle.call_refusal.proofs.Begun.{begun-laid}
+use Rattle.call_refusal.proofs.Begun.{begun-deep, begun-laid}
 use Rattle.call_write.specs.declared.Prepared.{Prepared}
 use Rattle.call_write.specs.Writing.{Prepares}
 use Rattle.call_timed.specs.declared.Op.{Op}
 use Rattle.call_timed.specs.Ops.{op-of}
 use Rattle.call_timed.proofs.Works.{flushes, ticks}
-use Rattle.call_timed.proofs.Ends.{deep}
 use Rattle.call_timed.proofs.prepare.Statement.{statement}
 use Rattle.call_timed.proofs.prepare.Tie as tie
 
@@ -65,7 +64,7 @@ merge-level-requires : tie.Need-merge-level-requires
 merge-level-requires c κs =
     let arm = c .before .before in
     let b = begun (entry (arm .before .before)) (arm .enum-told .given .1) in
-    record { value = _; has = (begun-laid b, deep b) }
+    record { value = _; has = (begun-laid b, begun-deep b) }
 
 enum-told-2 : tie.Need-enum-told-2
 enum-told-2 c = search needs
@@ -127,7 +126,7 @@ returns-4 c =
     let s = entry (arm .before .before) in
     let is = arm .enum-told .given .1 in
     let b = begun s is in
-    prepares s is (flushes (merged .merge-level .ensures _ (begun-laid b) (deep b)))
+    prepares s is (flushes (merged .merge-level .ensures _ (begun-laid b) (begun-deep b)))
 
 returns-5 : tie.Need-returns-5
 returns-5 c =
