@@ -155,7 +155,9 @@ same-length-14 : tie.Need-same-length-14
 same-length-14 c = search needs
 
 returns-8 : tie.Need-returns-8
-returns-8 c = let arm = c .before .before .before .before in on-time (arm .before .before) (arm .command7 .given .1) (c .run-lookup .ensures)
+returns-8 c =
+    let arm = c .before .before .before .before in
+    on-time (arm .before .before) (arm .command7 .given .1) (c .run-lookup .ensures)
 
 pub run-command-spec : {M : Type 1} → statement M
 run-command-spec =
