@@ -1,4 +1,3 @@
 -- What the end of a call leaves is what the definition of the call says.
-pub mod Ends
 pub mod Laying
 pub mod Finishing

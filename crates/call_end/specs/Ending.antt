@@ -1,21 +1,14 @@
 -- What the parts of a call hand on up to its end.
 use mathlib.Core.Path.{_≡_}
 use mathlib.Core.List.{List}
-use Prim.Native.Nat.{ℕ, suc, _+_, _-_, _≤_}
-use lib.ListN.{length}
-use Rattle.model.specs.Records.{State, held-all}
+use Prim.Native.Nat.{ℕ, _+_, _-_, _≤_}
+use Rattle.model.specs.Records.{held-all}
 use Rattle.model.specs.Steps.{begin, pass}
 use Rattle.model.specs.Calls as model
 use Rattle.tables.specs.Placed.{entry-words, level-words}
 use Rattle.merge_levels.specs.Laid.{Store, Laid}
-use Rattle.call_refusal.specs.declared.Answer.{Answer}
-use Rattle.call_refusal.specs.Coded.{answer-of}
-
--- The level table of a state whose records the slots can hold.
-pub record RowsAre (p : State ℕ ℕ) (l : List ℕ) : Type 0 where
-  pub levels : l ≡ level-words p
-  pub size : length (p .levels) ≡ suc (p .settings .deepest)
-  pub few : held-all (p .levels) ≤ 65535
+use Rattle.call_end.specs.declared.Answer.{Answer}
+use Rattle.call_end.specs.Coded.{answer-of}
 
 -- A call that has only its pass before it.
 pub record Ending (g : Store) (e l : List ℕ) (t before merges : ℕ) : Type 0 where

@@ -1,2 +1,3 @@
--- What is handed to the end of a call, and what it leaves.
+-- How a call ends: its answer, what is handed to its end, and what that leaves.
+pub mod Coded
 pub mod Ending

@@ -1,2 +1,2 @@
--- A timed call's tables and answers, and its refusals 1 to 5.
-pub mod Coded
+-- Refusals 1 to 5 of a timed call, and a call that meets none of them.
+pub mod Began

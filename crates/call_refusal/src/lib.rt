@@ -1,16 +1,8 @@
-// What turns a timed call away at once, and the answer that says so.
+// What turns a timed call away at once.
 use check_refusal::docket_refusal;
 use table_slots::clock_of;
 ghost use mathlib.Core.Path.{_≡_};
-ghost use Rattle.model.specs.Calls.{refusing};
-ghost use Rattle.call_refusal.specs.Coded.{answer-of, call-refusal};
-
-// A refusal's number with zeros, or 0 with the merges and the records that have gone.
-pub struct Answer {
-    pub refusal: u32,
-    pub merges: u32,
-    pub purged: u32,
-}
+ghost use Rattle.call_refusal.specs.Began.{call-refusal};
 
 // The first of the refusals 1 to 5 that the call meets, or 0.
 pub fn refusal_of(e: &[u32], l: &[u32], clock: u32, lo: u32, hi: u32) -> u32
@@ -27,15 +19,4 @@ pub fn refusal_of(e: &[u32], l: &[u32], clock: u32, lo: u32, hi: u32) -> u32
         return refusals::CLOCK;
     }
     0
-}
-
-// A refusal gives its number and zeros.
-pub fn refused(refusal: u32) -> Answer
-    ensures { λ r. ⌜ answer-of r ≡ refusing refusal ⌝ }
-{
-    Answer {
-        refusal: refusal,
-        merges: 0,
-        purged: 0,
-    }
 }

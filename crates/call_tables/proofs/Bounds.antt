@@ -30,7 +30,8 @@ module _ (w : Tables) (c : Call ℕ) where
   pub refusal-most : call-tables w c .answer .refusal ≤ 7
   refusal-most =
       let t : ℕ = table-refusal (w .entries) (w .levels) in
-      omega (arith, refused-exactly w c, go (eqb t 0) (bad-docket (c .op)) (bad-clock (c .clock) (p .clock)) (out-of-slots (c .clock) (c .op) p) t (tables-refuse-low (w .entries) (w .levels)))
+      let low = tables-refuse-low (w .entries) (w .levels) in
+      omega (arith, refused-exactly w c, go (eqb t 0) (bad-docket (c .op)) (bad-clock (c .clock) (p .clock)) (out-of-slots (c .clock) (c .op) p) t low)
     where
       go : (a d b o : Bool) (t : ℕ) → t ≤ 3 → cond a (cond d 4 (cond b 5 (cond o 7 0))) t ≤ 7
       go true true b o t h = omega arith

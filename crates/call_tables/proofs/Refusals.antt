@@ -32,6 +32,10 @@ module _ (w : Tables) (c : Call ℕ) where
   abbrev t : ℕ
   t = table-refusal (w .entries) (w .levels)
 
+  -- What the call comes to, by whether the tables are sound.
+  abbrev choice : Bool → Called
+  choice b = cond b (wrote (slots-of (w .entries)) (step p c)) (record { tables = w; answer = refusing t })
+
   -- Each call is refused in exactly the listed cases.
   pub refused-exactly : call-tables w c .answer .refusal ≡ refusal-number w c
   unfolding call-tables
@@ -48,9 +52,7 @@ module _ (w : Tables) (c : Call ℕ) where
   unfolding call-tables
   refused-zeros = go (eqb t 0)
     where
-      go : (b : Bool) → cond b (wrote (slots-of (w .entries)) (step p c)) (record { tables = w; answer = refusing t }) .answer .refusal ≢ 0
-          → cond b (wrote (slots-of (w .entries)) (step p c)) (record { tables = w; answer = refusing t }) .answer
-          ≡ refusing (cond b (wrote (slots-of (w .entries)) (step p c)) (record { tables = w; answer = refusing t }) .answer .refusal)
+      go : (b : Bool) → choice b .answer .refusal ≢ 0 → choice b .answer ≡ refusing (choice b .answer .refusal)
       go true h = step-answer h
       go false h = refl
 
@@ -69,14 +71,15 @@ module _ (w : Tables) (c : Call ℕ) where
   unfolding call-tables
   refused-7-leaves = go (eqb t 0)
     where
-      go : (b : Bool) → cond b (wrote (slots-of (w .entries)) (step p c)) (record { tables = w; answer = refusing t }) .answer .refusal ≡ 7
-          → cond b (wrote (slots-of (w .entries)) (step p c)) (record { tables = w; answer = refusing t }) .tables ≡ merged-tables w
+      go : (b : Bool) → choice b .answer .refusal ≡ 7 → choice b .tables ≡ merged-tables w
       go true h = ap (words (slots-of (w .entries))) (step-full h)
       go false h = absurd (omega (arith, tables-refuse-low (w .entries) (w .levels)))
 
   -- A call is refused 7 on sound tables only.
   refused-7-sound : call-tables w c .answer .refusal ≡ 7 → t ≡ 0
-  refused-7-sound h = by-cases (eqb t 0) (λ yes. eqb-true t 0 yes) (λ no. absurd (omega (arith, tables-refuse-low (w .entries) (w .levels), rw no at (sym refused-exactly ∙ h))))
+  refused-7-sound h =
+      by-cases (eqb t 0) (λ yes. eqb-true t 0 yes)
+      (λ no. absurd (omega (arith, tables-refuse-low (w .entries) (w .levels), rw no at (sym refused-exactly ∙ h))))
 
   -- And its clock word is as before.
   pub refused-7-clock : Fits32 (w .entries) → call-tables w c .answer .refusal ≡ 7 → clock-of (call-tables w c .tables .entries) ≡ clock-of (w .entries)
@@ -114,4 +117,5 @@ module _ (w : Tables) where
   unfolding call-tables
   stays-sound fits c h =
       let p = read-state (w .entries) (w .levels) in
-      rw h (words-sound (slots-of (w .entries)) (step p c .state) (step-formed (slots-of (w .entries)) p c (sound-words (w .entries) (w .levels) fits h .formed)))
+      let n = slots-of (w .entries) in
+      rw h (words-sound n (step p c .state) (step-formed n p c (sound-words (w .entries) (w .levels) fits h .formed)))

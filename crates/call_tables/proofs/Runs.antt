@@ -19,7 +19,7 @@ use Rattle.tables.specs.Formed.{Formed}
 use Rattle.tables.proofs.Back.{formed-holds, written-reads}
 use Rattle.tables.proofs.FormedSound.{words-sound, sound-words}
 use Rattle.tables.proofs.FormedSteps.{step-formed}
-use Rattle.call_tables.specs.Calls.{Tables, Called, words, wrote, call-tables, run-tables, answers-tables}
+use Rattle.call_tables.specs.Calls.{Tables, Called, lent, words, wrote, call-tables, run-tables, answers-tables}
 
 module _ (n : ℕ) where
   pub words-slots : (p : State ℕ ℕ) → Formed n p → slots-of (entry-words n p) ≡ n
@@ -40,30 +40,33 @@ module _ (n : ℕ) where
   answers-words p [] f = refl
   answers-words p (c ∷ cs) f = rw (called-words p c f, answers-words (step p c .state) cs (step-formed n p c f))
 
+-- Sound tables are the words of what they read as.
+pub rewritten : (w : Tables) → Fits32 (w .entries) → table-refusal (w .entries) (w .levels) ≡ 0
+    → words (slots-of (w .entries)) (read-state (w .entries) (w .levels)) ≡ w
+rewritten w fits h =
+    let p : State ℕ ℕ = read-state (w .entries) (w .levels) in
+    let f = sound-words (w .entries) (w .levels) fits h in
+    ap (λ (e : List ℕ). lent e (level-words p)) (sym (f .entries)) ∙ ap (lent (w .entries)) (sym (f .levels))
+
 -- "Tables … are unchanged, save under 7", for tables of any content.
 module _ (w : Tables) (fits : Fits32 (w .entries)) (c : Call ℕ) where
-  -- Sound tables are the words of what they read as.
-  rewritten : table-refusal (w .entries) (w .levels) ≡ 0 → words (slots-of (w .entries)) (read-state (w .entries) (w .levels)) ≡ w
-  rewritten h =
-      let p : State ℕ ℕ = read-state (w .entries) (w .levels) in
-      let f = sound-words (w .entries) (w .levels) fits h in
-      ap (λ (e : List ℕ). record { entries = e; levels = level-words p }) (sym (f .entries))
-      ∙ ap (λ (l : List ℕ). record { entries = w .entries; levels = l }) (sym (f .levels))
+  abbrev p : State ℕ ℕ
+  p = read-state (w .entries) (w .levels)
 
-  not-accepted : (p : State ℕ ℕ) → step p c .answer .refusal ≢ 0 → accepted p c ≡ false
+  abbrev t : ℕ
+  t = table-refusal (w .entries) (w .levels)
+
+  not-accepted : step p c .answer .refusal ≢ 0 → accepted p c ≡ false
   unfolding accepted
-  not-accepted p h = ne-eqb (step p c .answer .refusal) 0 h
+  not-accepted h = ne-eqb (step p c .answer .refusal) 0 h
 
   pub refused-words : call-tables w c .answer .refusal ≢ 0 → call-tables w c .answer .refusal ≢ 7 → call-tables w c .tables ≡ w
   unfolding call-tables
-  refused-words = go (eqb (table-refusal (w .entries) (w .levels)) 0) refl
+  refused-words = go (eqb t 0) refl
     where
       choice : Bool → Called
-      choice b = cond b (wrote (slots-of (w .entries)) (step (read-state (w .entries) (w .levels)) c)) (record { tables = w; answer = refusing (table-refusal (w .entries) (w .levels)) })
+      choice b = cond b (wrote (slots-of (w .entries)) (step p c)) (record { tables = w; answer = refusing t })
 
-      go : (b : Bool) → eqb (table-refusal (w .entries) (w .levels)) 0 ≡ b → choice b .answer .refusal ≢ 0 → choice b .answer .refusal ≢ 7 → choice b .tables ≡ w
+      go : (b : Bool) → eqb t 0 ≡ b → choice b .answer .refusal ≢ 0 → choice b .answer .refusal ≢ 7 → choice b .tables ≡ w
       go false q h k = refl
-      go true q h k =
-          let p : State ℕ ℕ = read-state (w .entries) (w .levels) in
-          ap (words (slots-of (w .entries))) (refused-unchanged p c (not-accepted p h) k)
-          ∙ rewritten (eqb-true (table-refusal (w .entries) (w .levels)) 0 q)
+      go true q h k = ap (words (slots-of (w .entries))) (refused-unchanged p c (not-accepted h) k) ∙ rewritten w fits (eqb-true t 0 q)

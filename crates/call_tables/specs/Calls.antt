@@ -18,6 +18,10 @@ pub record Tables : Type 0 where
   pub entries : List ℕ
   pub levels : List ℕ
 
+-- The two tables that a call is lent.
+abbrev pub lent : List ℕ → List ℕ → Tables
+lent e l = record { entries = e; levels = l }
+
 pub record Called : Type 0 where
   pub tables : Tables
   pub answer : Answer

@@ -1,2 +1,3 @@
--- What the code asks of a write's dockets.
-pub mod Dockets
+-- The work of each operation, and the end of a begun call, are what the definition of the call says.
+pub mod Works
+pub mod Ends

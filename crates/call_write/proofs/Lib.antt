@@ -1,3 +1,3 @@
--- What each stage of a write leaves is what the definition of the call says.
+-- What each stage of a write leaves is what the definition prepares.
 pub mod Preparing
 pub mod Writing

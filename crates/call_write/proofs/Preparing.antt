@@ -1,4 +1,4 @@
--- The ways of a write up to its pass.
+-- The ways of a write up to its pass, in the definitions.
 use mathlib.Core.Path.{_≡_, refl, ap, _∙_}
 use mathlib.Core.Bool.{true, false, not}
 use Prim.Native.Nat.{ℕ, _<_}
@@ -11,7 +11,7 @@ use Rattle.model.proofs.Keeps.{has-room, merge-all-keeps}
 use Rattle.write_act.specs.Acting.{can-act}
 
 -- A write that is not out of slots, and the work that it does before its pass.
-pub record Prepared (t : ℕ) (v : Write ℕ) (s q : State ℕ ℕ) (m : ℕ) : Type 0 where
+pub record Leads (t : ℕ) (v : Write ℕ) (s q : State ℕ ℕ) (m : ℕ) : Type 0 where
   pub work : prepared t (written v) s ≡ record { state = q; merges = m }
   pub slot : out-of-slots t (written v) s ≡ false
 
@@ -29,7 +29,7 @@ module _ (t : ℕ) (v : Write ℕ) (s : State ℕ ℕ) where
   unfolding full
   roomy c = rw c
 
-  pub enters : crowded t v s ≡ false → Prepared t v s (enter t v s) 0
+  pub enters : crowded t v s ≡ false → Leads t v s (enter t v s) 0
   unfolding prepared write make-room full
   enters c = record { work = rw c; slot = not-full (roomy c) }
 
@@ -42,7 +42,7 @@ module _ (t : ℕ) (v : Write ℕ) (s : State ℕ ℕ) where
     unfolding full
     after-merges n = rw (c, n)
 
-    pub enters-after : none (merge-all s .state .free) ≡ false → (m : ℕ) → m ≡ merge-all s .merges → Prepared t v s (enter t v (merge-all s .state)) m
+    pub enters-after : none (merge-all s .state .free) ≡ false → (m : ℕ) → m ≡ merge-all s .merges → Leads t v s (enter t v (merge-all s .state)) m
     unfolding prepared write make-room full
     enters-after n m q = record { work = rw (c, n, q); slot = not-full (after-merges n) }
 
@@ -52,7 +52,7 @@ module _ (t : ℕ) (v : Write ℕ) (s : State ℕ ℕ) where
 
     module _ (n : none (merge-all s .state .free) ≡ true) (same : merge-all s .state .settings ≡ s .settings) where
       -- Level L of the merged state is where no-slot looks.
-      no-slot-is : out-of-slots t (written v) s ≡ not (can-act v (merge-all s .state))
+      pub no-slot-is : out-of-slots t (written v) s ≡ not (can-act v (merge-all s .state))
       unfolding no-slot full
       no-slot-is = go v c
         where
@@ -61,12 +61,9 @@ module _ (t : ℕ) (v : Write ℕ) (s : State ℕ ℕ) where
           go (delete k) q = refl
           go (delete-range lo hi) q = refl
 
-      pub acts : can-act v (merge-all s .state) ≡ true → (m : ℕ) → m ≡ merge-all s .merges → Prepared t v s (act-deepest t v (merge-all s .state)) m
+      pub acts : can-act v (merge-all s .state) ≡ true → (m : ℕ) → m ≡ merge-all s .merges → Leads t v s (act-deepest t v (merge-all s .state)) m
       unfolding prepared write make-room full
       acts h m q = record { work = rw (c, n, q); slot = no-slot-is ∙ ap not h }
-
-      pub refused-full : can-act v (merge-all s .state) ≡ false → out-of-slots t (written v) s ≡ true
-      refused-full h = no-slot-is ∙ ap not h
 
 pub merged-settings : (s : State ℕ ℕ) → 0 < s .settings .deepest → merge-all s .state .settings ≡ s .settings
 unfolding merge-state

@@ -1,2 +1,2 @@
--- What the stages of a write hand on.
-pub mod Crowded
+-- What a write is handed and what it hands on.
+pub mod Writing

@@ -1,51 +1,55 @@
-// A write that was not turned away, stage by stage: room for it, its entry or its action on level L, and the end of the call.
-use call_end::finish;
-use call_end::held_all;
-use call_refusal::Answer;
-use call_refusal::refused;
+// A write that was not turned away, up to the pass: room for it, its entry or its action on level L.
 use merge_levels::merge_all;
 use table_slots::first_free;
 use write_act::act;
 use write_enter::enter;
 use write_record::Record;
 use write_record::is_crowded;
-ghost use mathlib.Core.Path.{_≡_};
 ghost use Prim.Native.Nat.{ℕ};
 ghost use Rattle.lists.specs.All.{Exists};
 ghost use Rattle.model.specs.Steps.{Write};
 ghost use Rattle.model.specs.Calls.{written};
-ghost use Rattle.write_record.specs.Records.{record-of};
-ghost use Rattle.call_tables.specs.Calls.{call-tables};
-ghost use Rattle.call_refusal.specs.Coded.{lent, called, Began};
-ghost use Rattle.call_write.specs.Crowded.{Crowded};
+ghost use Rattle.call_write.specs.Writing.{Writes, Crowded, Prepares};
+
+// The merges before the pass; or full, where a put finds no slot and level L lacks its docket.
+pub struct Prepared {
+    pub full: bool,
+    pub merges: u32,
+}
 
 // A write whose refusals 1 to 5 have been asked for.
-pub fn write(e: &mut [u32], l: &mut [u32], clock: u32, w: Record) -> Answer
-    requires { ⌜ Exists (λ v. Began (now e) (now l) clock (written v) × (w ≡ record-of v)) ⌝ }
-    ensures { λ r. ⌜ ((v : Write ℕ) → Began (now (e .entry)) (now (l .entry)) clock (written v) → w ≡ record-of v
-        → called (now (e .exit)) (now (l .exit)) r ≡ call-tables (lent (now (e .entry)) (now (l .entry))) (record { clock = clock; op = written v })) ⌝ }
+pub fn write(e: &mut [u32], l: &mut [u32], clock: u32, w: Record) -> Prepared
+    requires { ⌜ Exists (λ v. Writes v (now e) (now l) clock w) ⌝ }
+    ensures { λ r. ⌜ ((v : Write ℕ) → Writes v (now (e .entry)) (now (l .entry)) clock w
+        → Prepares (now (e .entry)) (now (l .entry)) clock (written v) (now (e .exit)) (now (l .exit)) r) ⌝ }
 {
-    let before = held_all(l) + 1;
     if is_crowded(e, l, w) {
-        return write_crowded(e, l, clock, w, before);
+        return write_crowded(e, l, clock, w);
     }
     enter(e, l, clock, w);
-    finish(e, l, clock, before, 0)
+    Prepared {
+        full: false,
+        merges: 0,
+    }
 }
 
 // Where the buffer has no room the levels are merged first; then into the buffer, or onto level L where no slot is free even then.
-fn write_crowded(e: &mut [u32], l: &mut [u32], clock: u32, w: Record, before: u32) -> Answer
-    requires { ⌜ Exists (λ v. Crowded v (now e) (now l) clock w before) ⌝ }
-    ensures { λ r. ⌜ ((v : Write ℕ) → Crowded v (now (e .entry)) (now (l .entry)) clock w before
-        → called (now (e .exit)) (now (l .exit)) r ≡ call-tables (lent (now (e .entry)) (now (l .entry))) (record { clock = clock; op = written v })) ⌝ }
+fn write_crowded(e: &mut [u32], l: &mut [u32], clock: u32, w: Record) -> Prepared
+    requires { ⌜ Exists (λ v. Crowded v (now e) (now l) clock w) ⌝ }
+    ensures { λ r. ⌜ ((v : Write ℕ) → Crowded v (now (e .entry)) (now (l .entry)) clock w
+        → Prepares (now (e .entry)) (now (l .entry)) clock (written v) (now (e .exit)) (now (l .exit)) r) ⌝ }
 {
     let merges = merge_all(e, l);
     if first_free(e) != 0 {
         enter(e, l, clock, w);
-        return finish(e, l, clock, before, merges);
+        return Prepared {
+            full: false,
+            merges: merges,
+        };
     }
-    if !act(e, l, clock, w) {
-        return refused(refusals::FULL);
+    let acted = act(e, l, clock, w);
+    Prepared {
+        full: !acted,
+        merges: merges,
     }
-    finish(e, l, clock, before, merges)
 }

@@ -21,9 +21,9 @@ use Rattle.model.proofs.Demands as model
 use Rattle.model.proofs.Numbers.{run-settings}
 use Rattle.model_history.specs.History.{came, earliest, history}
 use Rattle.model_history.proofs.Owed.{owed-without-slots}
-use Rattle.tables.proofs.Rows.{level-row-at}
+use Rattle.tables.proofs.Rows.{settings-back, level-row-at}
 use Rattle.tables.specs.Slots.{slots-of, clock-of}
-use Rattle.tables.specs.Rows.{settings-of, level-row, row-words}
+use Rattle.tables.specs.Rows.{Row as Row′, settings-of, level-row}
 use Rattle.tables.specs.Sound.{table-refusal}
 use Rattle.tables.specs.Placed.{level-words, read-state}
 use Rattle.tables.proofs.Back.{written-reads}
@@ -63,10 +63,10 @@ module _ (n : ℕ) (s : Settings) (low : 1 ≤ n) (high : n ≤ 65535) (ok : all
   always-sound cs = rw (runs cs) (words-sound n (run (fresh s (upto n)) cs) (formed cs))
 
   pub settings-stay : (cs : List (Call ℕ)) → settings-of (tables-after n s cs .levels) ≡ s
-  unfolding level-words row-words fresh
+  unfolding fresh
   settings-stay cs =
       let deep : 0 < s .deepest = omega (arith, allowed-bounds s ok .deepest-low) in
-      rw (runs cs) (run-settings (fresh s (upto n)) cs deep)
+      rw (runs cs) (settings-back (run (fresh s (upto n)) cs) ∙ run-settings (fresh s (upto n)) cs deep)
 
   -- The state after the list is what its words read as.
   abbrev after : List (Call ℕ) → State ℕ ℕ
@@ -133,7 +133,7 @@ module _ (n : ℕ) (s : Settings) (low : 1 ≤ n) (high : n ≤ 65535) (ok : all
       let deep : 0 < s .deepest = omega (arith, allowed-bounds s ok .deepest-low) in
       let stay : run (fresh s (upto n)) cs .settings ≡ s = run-settings (fresh s (upto n)) cs deep in
       ap (λ (w : Tables). level-row (w .levels) i .owed) (runs cs)
-      ∙ ap (λ (r : Row′). r .w3) (level-row-at (after cs) i (rw (formed cs .size, stay) (omega arith)))
+      ∙ ap (λ (r : Row′). r .owed) (level-row-at (after cs) i (rw (formed cs .size, stay) (omega arith)))
       ∙ owed-without-slots s (upto n) cs ok i below ∙ ap (λ x. earliest (came (history (slotless x s) cs) i)) (length-upto n)
 
   pub refusals-as-map : (cs : List (Call ℕ)) → map (λ (r : Answer). r .refusal) (answers-tables (made-tables n s) cs) ≡ map-refusals n no-rows cs

@@ -5,10 +5,10 @@ use Prim.Native.Nat.{ℕ, _≤_}
 use native.Mathlib.Omega.{arith}
 use Rattle.model.specs.Calls.{Call}
 use Rattle.tables.specs.Words.{Fits32}
-use Rattle.call_tables.specs.Calls.{Called, call-tables}
+use Rattle.call_tables.specs.Calls.{Called, lent, call-tables}
 use Rattle.call_tables.proofs.Bounds.{refusal-most, merges-most-12}
-use Rattle.call_refusal.specs.declared.Answer.{Answer}
-use Rattle.call_refusal.specs.Coded.{answer-of, lent, called}
+use Rattle.call_end.specs.declared.Answer.{Answer}
+use Rattle.call_end.specs.Coded.{answer-of, called}
 use Rattle.c_packing.specs.Packed.{answer-number, packed-call}
 
 module _ (e l e′ l′ : List ℕ) (r : Answer) (c : Call ℕ) (is : called e′ l′ r ≡ call-tables (lent e l) c) where

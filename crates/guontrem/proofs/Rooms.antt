@@ -14,7 +14,8 @@ abbrev pub Packable : Scanned → Type 0
 Packable a = (a .count < 4294967296) × (a .next < 65536) × (a .refusal < 256)
 
 -- A scan has left the answer a and the rows zs.
-module _ (e l : List ℕ) (lo hi : ℕ) (ys zs : List Row) (a : Scanned) (is : _≡_ {A = Outcome} (record { answer = a; rows = zs }) (scan-tables e l lo hi ys)) where
+module _ (e l : List ℕ) (lo hi : ℕ) (ys zs : List Row) (a : Scanned)
+    (is : _≡_ {A = Outcome} (record { answer = a; rows = zs }) (scan-tables e l lo hi ys)) where
   pub packable : Packable a
   packable =
       let low = answer-low e l lo hi ys in

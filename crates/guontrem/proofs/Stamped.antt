@@ -24,7 +24,8 @@ abbrev Stamped : model.Found ℕ → Type 0
 Stamped model.absent = Unit {0}
 Stamped (model.found a t) = 1 ≤ t
 
-find-stamped : (ps : List (Point ℕ ℕ)) (k : ℕ) (deeper : model.Found ℕ) (t : ℕ) → All (λ p. (1 ≤ p .stamp) × (p .stamp ≤ t)) ps → Stamped deeper → Stamped (model.find ps k deeper)
+find-stamped : (ps : List (Point ℕ ℕ)) (k : ℕ) (deeper : model.Found ℕ) (t : ℕ) → All (λ p. (1 ≤ p .stamp) × (p .stamp ≤ t)) ps
+    → Stamped deeper → Stamped (model.find ps k deeper)
 unfolding model.find
 find-stamped [] k deeper t a d = d
 find-stamped (p ∷ ps) k deeper t a d = go (eqb (p .key) k) (p .entry) (find-stamped ps k deeper t (a .1) d)

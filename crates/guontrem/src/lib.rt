@@ -2,11 +2,8 @@
 use c_packing::pack;
 use c_packing::pack_lookup;
 use c_packing::pack_scan;
-use call_timed::delete;
-use call_timed::delete_range;
-use call_timed::flush;
-use call_timed::put;
-use call_timed::tick;
+use call_timed::Op;
+use call_timed::call;
 use check_refusal::table_refusal;
 use lookup::lookup;
 use make::make;
@@ -18,9 +15,9 @@ ghost use Rattle.make.specs.Make.{make-tables};
 ghost use Rattle.lookup.specs.Lookup.{lookup-tables};
 ghost use Rattle.model.specs.Steps.{put, delete, delete-range};
 ghost use Rattle.model.specs.Calls.{written, flush, tick};
-ghost use Rattle.call_tables.specs.Calls.{call-tables};
+ghost use Rattle.call_tables.specs.Calls.{lent, call-tables};
 ghost use Rattle.scan.specs.Scan.{scan-tables};
-ghost use Rattle.call_refusal.specs.Coded.{lent};
+ghost use Rattle.call_timed.specs.Ops.{op-of};
 ghost use Rattle.c_packing.specs.Packed.{packed, packed-call, packed-scan};
 
 // The number of the refusal that the tables meet, 1 to 3, or 0 where they are sound.
@@ -65,8 +62,7 @@ pub extern "C" fn guontrem_put(
 ) -> u64
     ensures { λ r. ⌜ record { tables = lent (now (entries .exit)) (now (levels .exit)); number = r } ≡ packed-call (call-tables (lent (now (entries .entry)) (now (levels .entry))) (record { clock = clock; op = written (put docket tally) })) ⌝ }
 {
-    let answer = put(entries, levels, clock, docket, tally);
-    pack(answer.refusal, answer.merges, answer.purged)
+    call_packed(entries, levels, clock, Op::Put(docket, tally))
 }
 
 // Deletes a docket.
@@ -79,8 +75,7 @@ pub extern "C" fn guontrem_delete(
 ) -> u64
     ensures { λ r. ⌜ record { tables = lent (now (entries .exit)) (now (levels .exit)); number = r } ≡ packed-call (call-tables (lent (now (entries .entry)) (now (levels .entry))) (record { clock = clock; op = written (delete docket) })) ⌝ }
 {
-    let answer = delete(entries, levels, clock, docket);
-    pack(answer.refusal, answer.merges, answer.purged)
+    call_packed(entries, levels, clock, Op::Delete(docket))
 }
 
 // Deletes the dockets from lo to hi.
@@ -94,8 +89,7 @@ pub extern "C" fn guontrem_delete_range(
 ) -> u64
     ensures { λ r. ⌜ record { tables = lent (now (entries .exit)) (now (levels .exit)); number = r } ≡ packed-call (call-tables (lent (now (entries .entry)) (now (levels .entry))) (record { clock = clock; op = written (delete-range lo hi) })) ⌝ }
 {
-    let answer = delete_range(entries, levels, clock, lo, hi);
-    pack(answer.refusal, answer.merges, answer.purged)
+    call_packed(entries, levels, clock, Op::DeleteRange(lo, hi))
 }
 
 // Merges the buffer, full or not, and does the pass.
@@ -103,8 +97,7 @@ pub extern "C" fn guontrem_delete_range(
 pub extern "C" fn guontrem_flush(entries: &mut [u32], levels: &mut [u32], clock: u32) -> u64
     ensures { λ r. ⌜ record { tables = lent (now (entries .exit)) (now (levels .exit)); number = r } ≡ packed-call (call-tables (lent (now (entries .entry)) (now (levels .entry))) (record { clock = clock; op = flush })) ⌝ }
 {
-    let answer = flush(entries, levels, clock);
-    pack(answer.refusal, answer.merges, answer.purged)
+    call_packed(entries, levels, clock, Op::Flush)
 }
 
 // Does the pass alone.
@@ -112,7 +105,14 @@ pub extern "C" fn guontrem_flush(entries: &mut [u32], levels: &mut [u32], clock:
 pub extern "C" fn guontrem_tick(entries: &mut [u32], levels: &mut [u32], clock: u32) -> u64
     ensures { λ r. ⌜ record { tables = lent (now (entries .exit)) (now (levels .exit)); number = r } ≡ packed-call (call-tables (lent (now (entries .entry)) (now (levels .entry))) (record { clock = clock; op = tick })) ⌝ }
 {
-    let answer = tick(entries, levels, clock);
+    call_packed(entries, levels, clock, Op::Tick)
+}
+
+// A timed call, its answer as one number.
+fn call_packed(entries: &mut [u32], levels: &mut [u32], clock: u32, op: Op) -> u64
+    ensures { λ r. ⌜ record { tables = lent (now (entries .exit)) (now (levels .exit)); number = r } ≡ packed-call (call-tables (lent (now (entries .entry)) (now (levels .entry))) (record { clock = clock; op = op-of op })) ⌝ }
+{
+    let answer = call(entries, levels, clock, op);
     pack(answer.refusal, answer.merges, answer.purged)
 }
 

@@ -4,3 +4,5 @@ pub mod LevelTable
 pub mod Store
 pub mod Pair
 pub mod Turns
+pub mod Whole
+pub mod Free

@@ -8,10 +8,11 @@ use Rattle.model.specs.Merge.{later, merged, settled, joined, freed}
 use Rattle.model.specs.Steps.{single, merge-state, merge-level, merge-all, enter-at, enter, set-points, wipe, act-deepest, crowded, make-room, full, write, no-slot, buffer-due, due, pass-buffer, pass-level, pass, still-due}
 use Rattle.model.specs.Lookup.{find, lookup}
 use Rattle.model.specs.Calls.{prepared, finish, step}
-use Rattle.tables.specs.Rows.{set-row, row-words}
+use Rattle.tables.specs.Slots.{set-slot, slot-words}
+use Rattle.tables.specs.Rows.{row-words, level-table}
 use Rattle.tables.specs.Sound.{chain, ascend, level-sound, levels-sound, record-slots, once-each, chains-sound, entries-fit, levels-fit, table-refusal}
 use Rattle.tables.specs.Placed.{read-levels, read-state, lay, lay-all, entry-words, level-words}
-use Rattle.make_fresh.specs.Fresh.{free-words, made-entries, made-levels}
+use Rattle.make_fresh.specs.Fresh.{free-slots, made-entries, made-levels}
 use Rattle.make.specs.Make.{make-tables}
 use Rattle.lookup.specs.Lookup.{lookup-tables}
 use Rattle.call_tables.specs.Calls.{call-tables}
@@ -23,7 +24,11 @@ use Rattle.script_command.specs.Script.{command-step, line-step}
 use Rattle.script_command.specs.Cases.{prints, CaseTable}
 
 pub cases : CaseTable
-unfolding any every count select covers sum merge iterate allowed power capacity limit fresh later merged settled joined freed single merge-state merge-level merge-all enter-at enter set-points wipe act-deepest crowded make-room full write no-slot buffer-due due pass-buffer pass-level pass still-due find lookup prepared finish step set-row chain ascend level-sound levels-sound record-slots once-each chains-sound entries-fit levels-fit table-refusal read-levels read-state lay lay-all entry-words row-words level-words free-words made-entries made-levels make-tables lookup-tables call-tables digits decimal fields line-of bytes makes does finds command-step line-step prints
+unfolding any every count select covers sum merge iterate allowed power capacity limit fresh later merged settled joined freed single merge-state merge-level
+    merge-all enter-at enter set-points wipe act-deepest crowded make-room full write no-slot buffer-due due pass-buffer pass-level pass
+    still-due find lookup prepared finish step set-slot chain ascend level-sound levels-sound record-slots once-each chains-sound entries-fit
+    levels-fit table-refusal read-levels read-state lay lay-all entry-words slot-words row-words level-table level-words free-slots made-entries made-levels
+    make-tables lookup-tables call-tables digits decimal fields line-of bytes makes does finds command-step line-step prints
 cases = record {
   script = refl;
   before-a-make = refl;

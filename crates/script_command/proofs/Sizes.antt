@@ -6,6 +6,8 @@ use Prim.Native.Nat.{ℕ, _≤_}
 use borrow.Author.Tests.{ltb-false, eqb-true}
 use lib.Dec.{ltb, eqb}
 use lib.ListN.{length, take}
+use Rattle.tables.specs.Slots.{entry-length}
+use Rattle.tables.specs.Rows.{level-length}
 use Rattle.settings.specs.declared.Settings.{Settings}
 use Rattle.settings.proofs.Allowed.{allowed-bounds}
 use Rattle.lists.proofs.Bools.{cond-elim}
@@ -18,7 +20,7 @@ use Rattle.script_lines.specs.declared.Line.{Line}
 use Rattle.script_lines.specs.declared.Line.the-variants.{Is, Unreadable}
 use Rattle.script_store.specs.declared.Size.{Size}
 use Rattle.script_store.specs.declared.Turn.{Turn}
-use Rattle.script_store.specs.Memory.{Memory, Stepped, entry-length, level-room, with-tables, answers-alone, makes, does, finds}
+use Rattle.script_store.specs.Memory.{Memory, Stepped, level-room, with-tables, answers-alone, makes, does, finds}
 use Rattle.script_command.specs.Script.{is-early, carried-out, command-step, line-step}
 use Rattle.script_store.specs.Coded.{Fits, memory, stepped}
 

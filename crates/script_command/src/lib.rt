@@ -1,17 +1,14 @@
 // One line of the script, carried out in the memory that holds the store.
+use call_timed::Op;
 use script_lines::Command;
 use script_lines::Line;
 use script_lines::read_line;
 use script_store::Size;
 use script_store::Turn;
 use script_store::alone;
-use script_store::run_delete;
-use script_store::run_delete_range;
-use script_store::run_flush;
+use script_store::run_call;
 use script_store::run_lookup;
 use script_store::run_make;
-use script_store::run_put;
-use script_store::run_tick;
 ghost use mathlib.Core.Path.{_≡_};
 ghost use Rattle.script_lines.specs.Lines.{line-of};
 ghost use Rattle.script_command.specs.Script.{is-make, is-early, command-step, line-step};
@@ -48,18 +45,23 @@ fn run_command(command: Command, entries: &mut [u32], levels: &mut [u32], size: 
             buffer,
             term,
         ),
-        Command::Put(clock, key, value) => run_put(entries, levels, size, clock, key, value),
-        Command::Delete(clock, key) => run_delete(entries, levels, size, clock, key),
-        Command::DeleteRange(clock, lo, hi) => run_delete_range(
+        Command::Put(clock, key, value) => run_call(
             entries,
             levels,
             size,
             clock,
-            lo,
-            hi,
+            Op::Put(key, value),
         ),
-        Command::Flush(clock) => run_flush(entries, levels, size, clock),
-        Command::Tick(clock) => run_tick(entries, levels, size, clock),
+        Command::Delete(clock, key) => run_call(entries, levels, size, clock, Op::Delete(key)),
+        Command::DeleteRange(clock, lo, hi) => run_call(
+            entries,
+            levels,
+            size,
+            clock,
+            Op::DeleteRange(lo, hi),
+        ),
+        Command::Flush(clock) => run_call(entries, levels, size, clock, Op::Flush),
+        Command::Tick(clock) => run_call(entries, levels, size, clock, Op::Tick),
         Command::Lookup(key) => run_lookup(entries, levels, size, key),
     }
 }

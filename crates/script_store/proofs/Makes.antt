@@ -9,11 +9,12 @@ use lib.ListN.{length, take, drop}
 use Rattle.settings.specs.declared.Settings.{Settings}
 use Rattle.settings.specs.Limits.{allowed}
 use Rattle.lists.proofs.Bools.{cond-elim}
-use Rattle.tables.specs.Slots.{slots-of}
+use Rattle.tables.specs.Rows.{level-length}
+use Rattle.tables.specs.Slots.{entry-length, slots-of}
 use Rattle.tables.specs.Sound.{entries-fit}
 use Rattle.make.specs.Make.{Made, made, not-made, make-tables}
 use Rattle.script_store.specs.declared.Size.{Size}
-use Rattle.script_store.specs.Memory.{Memory, Stepped, entry-length, level-length, level-room, with-tables, answers-alone, makes}
+use Rattle.script_store.specs.Memory.{Memory, Stepped, level-room, with-tables, answers-alone, makes}
 use Rattle.script_store.specs.Coded.{Fits, memory}
 use Rattle.script_store.proofs.Parts.{rejoined, unchanged, make-entry-part, make-level-part}
 
@@ -29,7 +30,7 @@ not-made-where-refused e l s =
     (λ _ _. refl))
     (λ _ _. refl)
 
-module _ (e l : List ℕ) (size : Size) (fits : Fits e l size) (n : ℕ) (s : Settings) where
+module _ {e l : List ℕ} {size : Size} (fits : Fits e l size) (n : ℕ) (s : Settings) where
   pub too-many : 4000 < n → answers-alone 9 (memory e l size) ≡ makes n s (memory e l size)
   unfolding makes
   too-many many = rw (lt-ltb 4000 n many)
@@ -48,25 +49,33 @@ module _ (e l : List ℕ) (size : Size) (fits : Fits e l size) (n : ℕ) (s : Se
   unfolding makes
   makes-few few = rw (le-ltb 4000 n few)
 
-  -- p and q are what the call leaves of the words that it is lent.
-  module _ (few : n ≤ 4000) (rows : ℕ) (rows-are : rows ≡ level-room (s .deepest)) (number : ℕ) (p q : List ℕ)
-      (tells : record { refusal = number; entries = p; levels = q } ≡ make-tables (take (entry-length n) e) (take rows l) s) where
+  -- A making that is lent so many words and rows, of which p and q are what it leaves.
+  module _ (few : n ≤ 4000) {words rows : ℕ} (words-are : words ≡ entry-length n) (rows-are : rows ≡ level-room (s .deepest)) (number : ℕ) (p q : List ℕ)
+      (tells : record { refusal = number; entries = p; levels = q } ≡ make-tables (take words e) (take rows l) s) where
     makes-told : outcome (record { refusal = number; entries = p; levels = q }) ≡ makes n s (memory e l size)
-    makes-told = ap outcome (tells ∙ ap (λ (k : ℕ). make-tables (take (entry-length n) e) (take k l) s) rows-are) ∙ makes-few few
+    makes-told = ap outcome (tells ∙ (λ i. make-tables (take (words-are i) e) (take (rows-are i) l) s)) ∙ makes-few few
 
-    pub make-refused : (number ≡ 0 → ⊥)
-        → record { memory = record { entries = p ++ drop (entry-length n) e; levels = q ++ drop rows l; slots = size .slots; deepest = size .deepest }; printed = record { first = number; second = 0; third = 0 } }
-        ≡ makes n s (memory e l size)
+    -- The memory with what is left of the tables, and a store of this size.
+    abbrev left : Size → Memory
+    left at = memory (p ++ drop words e) (q ++ drop rows l) at
+
+    abbrev new : Stepped
+    new = answers-alone 0 (with-tables fresh (record { entries = p; levels = q }))
+
+    pub make-refused : (number ≡ 0 → ⊥) → answers-alone number (left size) ≡ makes n s (memory e l size)
     make-refused refused =
-        let kept = tells ∙ not-made-where-refused (take (entry-length n) e) (take rows l) s (λ z. refused (ap (λ (r : Made). r .refusal) tells ∙ z)) in
-        (λ i. answers-alone number (record { entries = unchanged e p (entry-length n) (ap (λ (r : Made). r .entries) kept) i; levels = unchanged l q rows (ap (λ (r : Made). r .levels) kept) i; slots = size .slots; deepest = size .deepest }))
-        ∙ ap (λ t. cond t (answers-alone 0 (with-tables fresh (record { entries = p; levels = q }))) (answers-alone number (memory e l size))) (sym (ne-eqb number 0 refused))
+        let kept = tells ∙ not-made-where-refused (take words e) (take rows l) s (λ z. refused (ap (λ (r : Made). r .refusal) tells ∙ z)) in
+        let same-entries = unchanged e p words (ap (λ (r : Made). r .entries) kept) in
+        let same-levels = unchanged l q rows (ap (λ (r : Made). r .levels) kept) in
+        (λ i. answers-alone number (memory (same-entries i) (same-levels i) size))
+        ∙ ap (λ t. cond t new (answers-alone number (memory e l size))) (sym (ne-eqb number 0 refused))
         ∙ makes-told
 
-    pub make-accepted : number ≡ 0 → length p ≡ length (take (entry-length n) e) → length q ≡ length (take rows l)
-        → record { memory = record { entries = p ++ drop (entry-length n) e; levels = q ++ drop rows l; slots = n; deepest = s .deepest }; printed = record { first = 0; second = 0; third = 0 } }
-        ≡ makes n s (memory e l size)
+    pub make-accepted : number ≡ 0 → length p ≡ length (take words e) → length q ≡ length (take rows l)
+        → answers-alone 0 (left (record { slots = n; deepest = s .deepest })) ≡ makes n s (memory e l size)
     make-accepted accepted p-kept q-kept =
-        (λ i. answers-alone 0 (record { entries = rejoined e (entry-length n) (make-entry-part fits n few) p p-kept i; levels = rejoined l rows (make-level-part fits (s .deepest) rows rows-are) q q-kept i; slots = n; deepest = s .deepest }))
-        ∙ ap (λ t. cond t (answers-alone 0 (with-tables fresh (record { entries = p; levels = q }))) (answers-alone number (memory e l size))) (sym (eq-eqb number 0 accepted))
+        let whole-entries = rejoined e words (make-entry-part fits words-are few) p p-kept in
+        let whole-levels = rejoined l rows (make-level-part fits (s .deepest) rows-are) q q-kept in
+        (λ i. answers-alone 0 (memory (whole-entries i) (whole-levels i) (record { slots = n; deepest = s .deepest })))
+        ∙ ap (λ t. cond t new (answers-alone number (memory e l size))) (sym (eq-eqb number 0 accepted))
         ∙ makes-told

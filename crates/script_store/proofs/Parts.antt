@@ -7,9 +7,11 @@ use borrow.Author.Tests.{ltb-false}
 use lib.Dec.{ltb}
 use lib.ListN.{length, take, drop, take-append-drop}
 use lib.Seq.{length-take-le}
+use Rattle.tables.specs.Slots.{entry-length}
+use Rattle.tables.specs.Rows.{level-length}
 use Rattle.lists.proofs.Bools.{cond-elim}
 use Rattle.script_store.specs.declared.Size.{Size}
-use Rattle.script_store.specs.Memory.{entry-length, level-length, level-room}
+use Rattle.script_store.specs.Memory.{level-room}
 use Rattle.script_store.specs.Coded.{Fits}
 
 module _ (e : List ℕ) (n : ℕ) (room : n ≤ length e) where
@@ -32,15 +34,15 @@ level-room-most deepest =
 
 module _ {e l : List ℕ} {size : Size} (fits : Fits e l size) where
   -- There is room for what a making is lent.
-  pub make-entry-part : (n : ℕ) → n ≤ 4000 → entry-length n ≤ length e
-  make-entry-part n few = let room = fits .entry-room in omega arith
+  pub make-entry-part : {n words : ℕ} → words ≡ entry-length n → n ≤ 4000 → words ≤ length e
+  make-entry-part are few = let room = fits .entry-room in omega arith
 
-  pub make-level-part : (deepest rows : ℕ) → rows ≡ level-room deepest → rows ≤ length l
-  make-level-part deepest rows are = let room = fits .level-room in omega (arith, level-room-most deepest)
+  pub make-level-part : (deepest : ℕ) {rows : ℕ} → rows ≡ level-room deepest → rows ≤ length l
+  make-level-part deepest are = let room = fits .level-room in omega (arith, level-room-most deepest)
 
   -- There is room for the store's tables.
-  pub entry-part : entry-length (size .slots) ≤ length e
-  entry-part = make-entry-part (size .slots) (fits .few)
+  pub entry-part : {words : ℕ} → words ≡ entry-length (size .slots) → words ≤ length e
+  entry-part are = make-entry-part are (fits .few)
 
-  pub level-part : level-length (size .deepest) ≤ length l
-  level-part = let room = fits .level-room in let shallow = fits .shallow in omega arith
+  pub level-part : {rows : ℕ} → rows ≡ level-length (size .deepest) → rows ≤ length l
+  level-part are = let room = fits .level-room in let shallow = fits .shallow in omega arith

@@ -3,42 +3,45 @@ use mathlib.Core.Path.{_≡_, ap, _∙_}
 use mathlib.Core.List.{List, _++_}
 use Prim.Native.Nat.{ℕ}
 use lib.ListN.{length, take, drop}
+use Rattle.tables.specs.Slots.{entry-length}
+use Rattle.tables.specs.Rows.{level-length}
 use Rattle.model.specs.Calls.{Call}
-use Rattle.call_tables.specs.Calls.{Called, call-tables}
-use Rattle.call_refusal.specs.declared.Answer as refusals
-use Rattle.call_refusal.specs.Coded.{lent, called}
+use Rattle.call_tables.specs.Calls.{Called, lent, call-tables}
+use Rattle.call_end.specs.declared.Answer.{Answer}
+use Rattle.call_end.specs.Coded.{called}
 use Rattle.lookup.specs.declared.Answer as lookup
 use Rattle.lookup.specs.Lookup.{lookup-tables, numbers}
 use Rattle.script_store.specs.declared.Size.{Size}
 use Rattle.script_store.specs.declared.Turn.{Turn}
-use Rattle.script_store.specs.Memory.{Memory, Stepped, entry-length, level-length, with-tables, does, finds}
+use Rattle.script_store.specs.Memory.{Memory, Stepped, with-tables, does, finds}
 use Rattle.script_store.specs.Coded.{Fits, memory, stepped, counting}
 use Rattle.script_store.proofs.Parts.{rejoined, entry-part, level-part}
 
 abbrev did : Memory → Called → Stepped
 did m r = record { memory = with-tables m (r .tables); printed = record { first = r .answer .refusal; second = r .answer .merges; third = r .answer .purged } }
 
-module _ (e l : List ℕ) (size : Size) (fits : Fits e l size) where
-  abbrev words : ℕ
-  words = entry-length (size .slots)
+abbrev tells : Memory → lookup.Answer → Stepped
+tells m a = let n = numbers a in record { memory = m; printed = record { first = n .refusal; second = n .found; third = n .tally } }
 
-  abbrev rows : ℕ
-  rows = level-length (size .deepest)
-
-  -- p and q are what the call leaves of the store's words.
-  pub done : (c : Call ℕ) (p q : List ℕ) (a : refusals.Answer) (r : Turn) → r ≡ counting size a → called p q a ≡ call-tables (lent (take words e) (take rows l)) c
+-- A call that is lent the store's words and rows.
+module _ {e l : List ℕ} {size : Size} (fits : Fits e l size) {words rows : ℕ}
+    (words-are : words ≡ entry-length (size .slots)) (rows-are : rows ≡ level-length (size .deepest)) where
+  -- p and q are what the call leaves of them.
+  pub done : (c : Call ℕ) (p q : List ℕ) (a : Answer) {r : Turn} → r ≡ counting size a → called p q a ≡ call-tables (lent (take words e) (take rows l)) c
       → length p ≡ length (take words e) → length q ≡ length (take rows l)
       → stepped (p ++ drop words e) (q ++ drop rows l) r ≡ does c (memory e l size)
   unfolding does
-  done c p q a r counts tells p-kept q-kept =
-      (λ i. stepped (rejoined e words (entry-part fits) p p-kept i) (rejoined l rows (level-part fits) q q-kept i) (counts i))
-      ∙ ap (did (memory e l size)) tells
+  done c p q a counts told p-kept q-kept =
+      (λ i. stepped (rejoined e words (entry-part fits words-are) p p-kept i) (rejoined l rows (level-part fits rows-are) q q-kept i) (counts i))
+      ∙ ap (did (memory e l size)) told
+      ∙ (λ i. did (memory e l size) (call-tables (lent (take (words-are i) e) (take (rows-are i) l)) c))
 
   -- The turn that prints an answer's numbers.
-  pub found : (k : ℕ) (r : Turn) (a : lookup.Answer) → a ≡ lookup-tables (take words e) (take rows l) k
+  pub found : (k : ℕ) (a : lookup.Answer) {r : Turn} → a ≡ lookup-tables (take words e) (take rows l) k
       → r ≡ record { slots = size .slots; deepest = size .deepest; first = numbers a .refusal; second = numbers a .found; third = numbers a .tally }
       → stepped e l r ≡ finds k (memory e l size)
   unfolding finds
-  found k r a tells prints =
+  found k a told prints =
       ap (stepped e l) prints
-      ∙ ap (λ (x : lookup.Answer). record { memory = memory e l size; printed = record { first = numbers x .refusal; second = numbers x .found; third = numbers x .tally } }) tells
+      ∙ ap (tells (memory e l size)) told
+      ∙ (λ i. tells (memory e l size) (lookup-tables (take (words-are i) e) (take (rows-are i) l) k))

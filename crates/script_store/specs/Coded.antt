@@ -3,7 +3,7 @@ use mathlib.Core.Path.{_≡_}
 use mathlib.Core.List.{List}
 use Prim.Native.Nat.{ℕ, _≤_}
 use lib.ListN.{length}
-use Rattle.call_refusal.specs.declared.Answer as refusals
+use Rattle.call_end.specs.declared.Answer.{Answer}
 use Rattle.script_store.specs.declared.Size.{Size}
 use Rattle.script_store.specs.declared.Turn.{Turn}
 use Rattle.script_store.specs.Memory.{Memory, Stepped}
@@ -25,5 +25,5 @@ stepped e l r = record {
 }
 
 -- A store of the same size, and what a timed call answers.
-abbrev pub counting : Size → refusals.Answer → Turn
+abbrev pub counting : Size → Answer → Turn
 counting size a = record { slots = size .slots; deepest = size .deepest; first = a .refusal; second = a .merges; third = a .purged }

@@ -1,11 +1,13 @@
 -- Document 01, "The script program": a store in memory, what each call does to it and which three numbers are printed.
 use mathlib.Core.Bool.{cond}
 use mathlib.Core.List.{List, _++_}
-use Prim.Native.Nat.{ℕ, _+_, _*_}
+use Prim.Native.Nat.{ℕ}
 use lib.Dec.{eqb, ltb}
 use lib.ListN.{length, take, drop}
 use Rattle.settings.specs.declared.Settings.{Settings}
 use Rattle.model.specs.Calls.{Call}
+use Rattle.tables.specs.Slots.{entry-length}
+use Rattle.tables.specs.Rows.{level-length}
 use Rattle.make.specs.Make.{make-tables}
 use Rattle.lookup.specs.Lookup.{lookup-tables, numbers}
 use Rattle.call_tables.specs.Calls.{Tables, call-tables}
@@ -27,12 +29,6 @@ pub record Stepped : Type 0 where
   pub memory : Memory
   pub printed : Printed
 
-abbrev pub entry-length : ℕ → ℕ
-entry-length slots = 4 * (slots + 1)
-
-abbrev pub level-length : ℕ → ℕ
-level-length deepest = 4 * (deepest + 2)
-
 -- The store's tables, and the memory with other words in their place.
 abbrev pub tables-of : Memory → Tables
 tables-of m = record { entries = take (entry-length (m .slots)) (m .entries); levels = take (level-length (m .deepest)) (m .levels) }
@@ -53,7 +49,8 @@ answers-alone n m = record { memory = m; printed = record { first = n; second = 
 abbrev pub level-room : ℕ → ℕ
 level-room deepest = cond (ltb 6 deepest) 32 (level-length deepest)
 
--- "N above 4,000 … is 9"; a making of settings that are out of range is refused whatever the level table's length. "A later M makes the store anew; a refused one leaves the store there was."
+-- "N above 4,000 … is 9"; a making of settings that are out of range is refused whatever the level table's length.
+-- "A later M makes the store anew; a refused one leaves the store there was."
 unfoldable pub makes : ℕ → Settings → Memory → Stepped
 makes n s m =
     let r = make-tables (take (entry-length n) (m .entries)) (take (level-room (s .deepest)) (m .levels)) s in

@@ -1,17 +1,16 @@
 // A store in memory for 4,000 slots and 6 levels: its size, and the calls on it, each with the three numbers that it prints.
-use call_timed::delete;
-use call_timed::delete_range;
-use call_timed::flush;
-use call_timed::put;
-use call_timed::tick;
+use call_timed::Op;
+use call_timed::call;
 use lookup::Answer;
 use lookup::lookup;
 use make::make;
+use table_levels::level_length;
+use table_slots::entry_length;
 ghost use mathlib.Core.Path.{_≡_};
+ghost use Prim.Native.Nat.{_≤_};
+ghost use Rattle.call_timed.specs.Ops.{op-of};
 ghost use Rattle.script_store.specs.Memory.{level-room, makes, does, finds};
 ghost use Rattle.script_store.specs.Coded.{Fits, memory, stepped, counting};
-ghost use Rattle.model.specs.Steps.{put, delete, delete-range};
-ghost use Rattle.model.specs.Calls.{written, flush, tick};
 
 // The most slots of a store in a script.
 const MOST_SLOTS: u32 = 4000;
@@ -48,7 +47,7 @@ pub fn alone(first: u32, size: Size) -> Turn
 }
 
 // What a timed call answers, and the store of the same size.
-pub fn counted(answer: call_refusal::Answer, size: Size) -> Turn
+pub fn counted(answer: call_end::Answer, size: Size) -> Turn
     ensures { λ r. ⌜ r ≡ counting size answer ⌝ }
 {
     Turn {
@@ -60,14 +59,14 @@ pub fn counted(answer: call_refusal::Answer, size: Size) -> Turn
     }
 }
 
-// The words of a level table; where no store can be made, as many as there are.
-fn level_words(deepest: u32) -> usize
+// The words of the level table that a making is lent; where no store can be made, as many as there are.
+fn level_room(deepest: u32) -> usize
     ensures { λ r. ⌜ r ≡ level-room deepest ⌝ }
 {
     if DEEPEST < deepest {
-        return 32;
+        return level_length(DEEPEST as usize);
     }
-    4 * (deepest as usize + 2)
+    level_length(deepest as usize)
 }
 
 // Makes the store anew; a refused making leaves the store there was.
@@ -87,8 +86,8 @@ pub fn run_make(
     if MOST_SLOTS < slots {
         return alone(refusals::LINE, size);
     }
-    let words = 4 * (slots as usize + 1);
-    let rows = level_words(deepest);
+    let words = entry_length(slots as usize);
+    let rows = level_room(deepest);
     let refusal = make(
         &mut entries[..words],
         &mut levels[..rows],
@@ -109,78 +108,14 @@ pub fn run_make(
     }
 }
 
-// Puts a key's value.
-pub fn run_put(
-    entries: &mut [u32],
-    levels: &mut [u32],
-    size: Size,
-    clock: u32,
-    key: u32,
-    value: u32,
-) -> Turn
+// A timed call, and what it prints.
+pub fn run_call(entries: &mut [u32], levels: &mut [u32], size: Size, clock: u32, op: Op) -> Turn
     requires { ⌜ Fits (now entries) (now levels) size ⌝ }
-    ensures { λ r. ⌜ stepped (now (entries .exit)) (now (levels .exit)) r ≡ does (record { clock = clock; op = written (put key value) }) (memory (now (entries .entry)) (now (levels .entry)) size) ⌝ }
+    ensures { λ r. ⌜ stepped (now (entries .exit)) (now (levels .exit)) r ≡ does (record { clock = clock; op = op-of op }) (memory (now (entries .entry)) (now (levels .entry)) size) ⌝ }
 {
-    let words = 4 * (size.slots + 1);
-    let rows = 4 * (size.deepest + 2);
-    let answer = put(
-        &mut entries[..words],
-        &mut levels[..rows],
-        clock,
-        key,
-        value,
-    );
-    counted(answer, size)
-}
-
-// Deletes a key.
-pub fn run_delete(entries: &mut [u32], levels: &mut [u32], size: Size, clock: u32, key: u32) -> Turn
-    requires { ⌜ Fits (now entries) (now levels) size ⌝ }
-    ensures { λ r. ⌜ stepped (now (entries .exit)) (now (levels .exit)) r ≡ does (record { clock = clock; op = written (delete key) }) (memory (now (entries .entry)) (now (levels .entry)) size) ⌝ }
-{
-    let words = 4 * (size.slots + 1);
-    let rows = 4 * (size.deepest + 2);
-    let answer = delete(&mut entries[..words], &mut levels[..rows], clock, key);
-    counted(answer, size)
-}
-
-// Deletes the keys from lo to hi.
-pub fn run_delete_range(
-    entries: &mut [u32],
-    levels: &mut [u32],
-    size: Size,
-    clock: u32,
-    lo: u32,
-    hi: u32,
-) -> Turn
-    requires { ⌜ Fits (now entries) (now levels) size ⌝ }
-    ensures { λ r. ⌜ stepped (now (entries .exit)) (now (levels .exit)) r ≡ does (record { clock = clock; op = written (delete-range lo hi) }) (memory (now (entries .entry)) (now (levels .entry)) size) ⌝ }
-{
-    let words = 4 * (size.slots + 1);
-    let rows = 4 * (size.deepest + 2);
-    let answer = delete_range(&mut entries[..words], &mut levels[..rows], clock, lo, hi);
-    counted(answer, size)
-}
-
-// Merges the buffer, full or not, and does the pass.
-pub fn run_flush(entries: &mut [u32], levels: &mut [u32], size: Size, clock: u32) -> Turn
-    requires { ⌜ Fits (now entries) (now levels) size ⌝ }
-    ensures { λ r. ⌜ stepped (now (entries .exit)) (now (levels .exit)) r ≡ does (record { clock = clock; op = flush }) (memory (now (entries .entry)) (now (levels .entry)) size) ⌝ }
-{
-    let words = 4 * (size.slots + 1);
-    let rows = 4 * (size.deepest + 2);
-    let answer = flush(&mut entries[..words], &mut levels[..rows], clock);
-    counted(answer, size)
-}
-
-// Does the pass alone.
-pub fn run_tick(entries: &mut [u32], levels: &mut [u32], size: Size, clock: u32) -> Turn
-    requires { ⌜ Fits (now entries) (now levels) size ⌝ }
-    ensures { λ r. ⌜ stepped (now (entries .exit)) (now (levels .exit)) r ≡ does (record { clock = clock; op = tick }) (memory (now (entries .entry)) (now (levels .entry)) size) ⌝ }
-{
-    let words = 4 * (size.slots + 1);
-    let rows = 4 * (size.deepest + 2);
-    let answer = tick(&mut entries[..words], &mut levels[..rows], clock);
+    let words = entry_length(size.slots);
+    let rows = level_length(size.deepest);
+    let answer = call(&mut entries[..words], &mut levels[..rows], clock, op);
     counted(answer, size)
 }
 
@@ -189,8 +124,8 @@ pub fn run_lookup(entries: &[u32], levels: &[u32], size: Size, key: u32) -> Turn
     requires { ⌜ Fits (now entries) (now levels) size ⌝ }
     ensures { λ r. ⌜ stepped (now (entries .entry)) (now (levels .entry)) r ≡ finds key (memory (now (entries .entry)) (now (levels .entry)) size) ⌝ }
 {
-    let words = 4 * (size.slots + 1);
-    let rows = 4 * (size.deepest + 2);
+    let words = entry_length(size.slots);
+    let rows = level_length(size.deepest);
     match lookup(&entries[..words], &levels[..rows], key) {
         Answer::Refused(number) => alone(number, size),
         Answer::Absent => alone(0, size),

@@ -126,11 +126,11 @@ pub fn set_stamp(e: &mut [u32], slot: usize, stamp: u32)
 }
 
 // A put over a put changes no more than these two.
-pub fn set_value(e: &mut [u32], slot: usize, tally: u32, stamp: u32)
+pub fn set_value(e: &mut [u32], slot: usize, value: u32, stamp: u32)
     requires { ⌜ InTable (now e) slot ⌝ }
-    ensures { λ _. ⌜ now (e .exit) ≡ set-slot (now (e .entry)) slot (with-value tally stamp (slot-at (now (e .entry)) slot)) ⌝ }
+    ensures { λ _. ⌜ now (e .exit) ≡ set-slot (now (e .entry)) slot (with-value value stamp (slot-at (now (e .entry)) slot)) ⌝ }
 {
-    e[WORDS * slot + 2] = tally;
+    e[WORDS * slot + 2] = value;
     e[WORDS * slot + 3] = stamp;
 }
 

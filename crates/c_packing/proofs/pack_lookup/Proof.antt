@@ -1,4 +1,4 @@
--- `c_packing::pack_lookup` meets its contract: each answer of the lookup goes out as its number.
+-- `c_packing::pack_lookup`: a tally and its stamp have room in one number, and a refusal, which has neither, stands in the lower half.
 use mathlib.Core.Path.{sym, ap, _∙_}
 use borrow.Author.Needs.{needs}
 use Rattle.c_packing.specs.Packed.{packed}

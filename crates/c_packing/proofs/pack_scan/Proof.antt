@@ -1,4 +1,4 @@
--- `c_packing::pack_scan` meets its contract: the count, the next docket, 'more' and the refusal have room in 64 bits.
+-- `c_packing::pack_scan`: the count, the next docket, 'more' and the refusal each have room in 64 bits, above the one before.
 use borrow.Author.Needs.{needs}
 use Rattle.c_packing.proofs.Packing.{packed-more, packed-last}
 use Rattle.c_packing.proofs.pack_scan.Statement.{statement}

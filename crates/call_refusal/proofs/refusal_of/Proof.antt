@@ -1,4 +1,4 @@
--- `call_refusal::refusal_of` meets its contract: each way out is the first of the refusals that is met.
+-- `call_refusal::refusal_of`: the tests are asked in the order of the refusals' table, so the first way out is the first refusal that is met.
 use mathlib.Core.Path.{sym, _∙_}
 use native.Mathlib.Omega.{arith}
 use borrow.Author.Needs.{needs}
@@ -7,35 +7,44 @@ use Rattle.call_refusal.proofs.Begun.{refused-dockets, refused-zero, re
 use Rattle.call_refusal.proofs.refusal_of.Statement.{statement}
 use Rattle.call_refusal.proofs.refusal_of.Tie as tie
 
+-- The entry, before the tables and the dockets were asked about.
+abbrev entry : tie.After-docket-refusal → tie.Start
+entry c = c .before .before .before
+
 docket-refusal-requires : tie.Need-docket-refusal-requires
 docket-refusal-requires c κs = search needs
 
 returns : tie.Need-returns
 returns c =
-    let a = c .before .before .before .before .args in
-    refused-dockets _ _ (a .clock) (a .lo) (a .hi) _ (c .before .docket-refusal .ensures) (c .if1 .taken)
+    let asked = c .before in
+    let a = entry asked .args in
+    refused-dockets _ _ (a .clock) (a .lo) (a .hi) (asked .docket-refusal .ensures) (c .if1 .taken)
 
 returns-2 : tie.Need-returns-2
 returns-2 c =
-    let a = c .before .before .before .before .before .args in
-    refused-zero _ _ (a .clock) (a .lo) (a .hi) _ (c .before .before .docket-refusal .ensures) (c .before .if1 .left) (c .if2 .taken)
+    let asked = c .before .before in
+    let a = entry asked .args in
+    refused-zero _ _ (a .clock) (a .lo) (a .hi) (asked .docket-refusal .ensures) (c .before .if1 .left) (c .if2 .taken)
 
-shared-slice-read-if3 : tie.Need-shared-slice-read-if3
-shared-slice-read-if3 c =
-    let a = c .before .before .before .before .before .before .args in
-    let r = c .before .before .before .docket-refusal .ensures in
-    let z = c .before .before .if1 .left in
-    omega (arith, sound-slot-zero (a .e .now) (a .l .now) (allowed-sound _ _ (a .lo) (a .hi) (sym r ∙ z)))
+clock-of-requires : tie.Need-clock-of-requires
+clock-of-requires c κs =
+    let sound = c .before in
+    let a = entry (sound .before) .args in
+    omega (arith, sound-slot-zero (a .e .now) (a .l .now) (allowed-sound _ _ (a .lo) (a .hi) (sym (sound .before .docket-refusal .ensures) ∙ sound .if1 .left)))
 
 returns-3 : tie.Need-returns-3
 returns-3 c =
-    let a = c .before .before .before .before .before .before .before .args in
-    refused-early _ _ (a .clock) (a .lo) (a .hi) _ (c .before .before .before .before .docket-refusal .ensures) (c .before .before .before .if1 .left) (c .before .before .if2 .left) (c .if3 .taken)
+    let later = c .before .before in
+    let asked = later .before .before in
+    let a = entry asked .args in
+    refused-early _ _ (a .clock) (a .lo) (a .hi) (asked .docket-refusal .ensures) (later .before .if1 .left) (later .if2 .left) (omega (arith, c .if3 .taken, c .before .clock-of .ensures))
 
 returns-4 : tie.Need-returns-4
 returns-4 c =
-    let a = c .before .before .before .before .before .before .before .args in
-    not-refused _ _ (a .clock) (a .lo) (a .hi) _ (c .before .before .before .before .docket-refusal .ensures) (c .before .before .before .if1 .left) (c .before .before .if2 .left) (c .if3 .left)
+    let later = c .before .before in
+    let asked = later .before .before in
+    let a = entry asked .args in
+    not-refused _ _ (a .clock) (a .lo) (a .hi) (asked .docket-refusal .ensures) (later .before .if1 .left) (later .if2 .left) (omega (arith, c .if3 .left, c .before .clock-of .ensures))
 
 pub refusal-of-spec : {M : Type 1} → statement M
-refusal-of-spec = tie.close (tie.spec docket-refusal-requires returns returns-2 shared-slice-read-if3 returns-3 returns-4)
+refusal-of-spec = tie.close (tie.spec docket-refusal-requires returns returns-2 clock-of-requires returns-3 returns-4)

@@ -1,38 +1,49 @@
--- `call_write::write` meets its contract: with room in the buffer, and without.
-use mathlib.Core.Path.{refl, sym, ap, _∙_}
-use Prim.Native.Nat.{_+_}
-use native.Mathlib.Omega.{arith}
+-- `call_write::write`: whether the buffer has room is the definition's test, and on either side of it the tables end as the definition prepares them.
+use mathlib.Core.Path.{_≡_, refl, sym, _∙_}
+use mathlib.Core.Bool.{Bool, false}
 use borrow.Author.Needs.{needs}
-use Rattle.model.specs.Calls.{written}
+use Prim.Native.Nat.{ℕ}
+use Rattle.model.specs.Steps.{Write, crowded}
+use Rattle.tables.specs.Placed.{read-state}
 use Rattle.call_refusal.proofs.Begun.{begun-low, begun-laid}
-use Rattle.call_write.proofs.Preparing.{enters, enters-room}
-use Rattle.call_end.proofs.Laying.{laid-rows}
-use Rattle.call_write.proofs.Writing.{pass-next, passed, entering}
+use Rattle.call_write.specs.Writing.{Writes, Crowded}
+use Rattle.call_write.proofs.Preparing.{enters-room}
+use Rattle.call_write.proofs.Writing.{entering, entered}
 use Rattle.call_write.proofs.write.Statement.{statement}
 use Rattle.call_write.proofs.write.Tie as tie
 
-held-all-requires : tie.Need-held-all-requires
-held-all-requires c κs =
-    let x = c .before .before .before .pre in let v = x .value in let b = x .has .0 in let is = x .has .1 in let w = begun-laid _ _ _ (written v) b in
-    record { value = _; has = laid-rows _ _ _ w }
+-- The entry, before the buffer was asked for room.
+abbrev entry : tie.After-is-crowded → tie.Start
+entry c = c .before .before .before .before .before
 
-add-before : tie.Need-add-before
-add-before c =
-    let x = c .before .before .before .before .pre in let v = x .value in let b = x .has .0 in let is = x .has .1 in let w = begun-laid _ _ _ (written v) b in
-    omega (arith, c .held-all .ensures _ (laid-rows _ _ _ w), laid-rows _ _ _ w .few)
+-- At the entry, the write v.
+abbrev Is : tie.Start → Write ℕ → Type 0
+Is s v = Writes v (s .args .e .now) (s .args .l .now) (s .args .clock) (s .args .w)
+
+abbrev test : tie.Start → Write ℕ → Bool
+test s v = crowded (s .args .clock) v (read-state (s .args .e .now) (s .args .l .now))
+
+-- What the code's test tells, for every write that the record stands for.
+asked : (c : tie.After-is-crowded) (v : Write ℕ) → Is (entry c) v → c .is-crowded .result ≡ test (entry c) v
+asked c v k = c .is-crowded .ensures _ v (begun-laid (k .began)) (k .write-is)
+
+no-room : (c : tie.Then1) (v : Write ℕ) → Is (entry (c .before)) v
+    → let a = entry (c .before) .args in Crowded v (a .e .now) (a .l .now) (a .clock) (a .w)
+no-room c v k = record { writes = k; no-room = sym (asked (c .before) v k) ∙ c .if1 .taken }
+
+room : (c : tie.Else1) (v : Write ℕ) → Is (entry (c .before)) v → test (entry (c .before)) v ≡ false
+room c v k = sym (asked (c .before) v k) ∙ c .if1 .left
 
 is-crowded-requires : tie.Need-is-crowded-requires
 is-crowded-requires c κs =
-    let x = c .before .before .before .before .before .before .pre in let v = x .value in let b = x .has .0 in let is = x .has .1 in let w = begun-laid _ _ _ (written v) b in
-    (record { value = _; has = w }, record { value = v; has = is })
+    let x = c .before .before .before .before .pre in
+    (record { value = _; has = begun-laid (x .has .began) }, record { value = x .value; has = x .has .write-is })
 
 write-crowded-requires : tie.Need-write-crowded-requires
 write-crowded-requires c κs =
-    let x = c .before .before .before .before .before .before .before .before .before .before .pre in let v = x .value in let b = x .has .0 in let is = x .has .1 in let w = begun-laid _ _ _ (written v) b in
-    record {
-      value = v;
-      has = record { began = b; write-is = is; no-room = sym (c .before .before .before .is-crowded .ensures _ v w is) ∙ c .before .before .if1 .taken; before-is = ap (λ k. k + 1) (c .before .before .before .before .before .before .held-all .ensures _ (laid-rows _ _ _ w)) };
-    }
+    let then = c .before .before in
+    let x = entry (then .before) .pre in
+    record { value = x .value; has = no-room then (x .value) (x .has) }
 
 same-length : tie.Need-same-length
 same-length c = search needs
@@ -41,27 +52,15 @@ same-length-2 : tie.Need-same-length-2
 same-length-2 c = search needs
 
 returns : tie.Need-returns
-returns c = λ v b is.
-    let w = begun-laid _ _ _ (written v) b in
-    c .before .before .before .before .write-crowded .ensures v
-    (record {
-      began = b;
-      write-is = is;
-      no-room = sym (c .before .before .before .before .before .before .before .before .is-crowded .ensures _ v w is) ∙ c .before .before .before .before .before .before .before .if1 .taken;
-      before-is = ap (λ k. k + 1) (c .before .before .before .before .before .before .before .before .before .before .before .held-all .ensures _ (laid-rows _ _ _ w));
-    })
+returns c = λ v k.
+    let written = c .before .before .before .before in
+    written .write-crowded .ensures v (no-room (written .before .before .before) v k)
 
 enter-requires : tie.Need-enter-requires
 enter-requires c κs =
-    let x = c .before .before .before .before .before .before .before .before .before .before .pre in let v = x .value in let b = x .has .0 in let is = x .has .1 in let w = begun-laid _ _ _ (written v) b in
-    (record { value = _; has = entering _ _ _ v b _ is (sym (c .before .before .before .is-crowded .ensures _ v w is) ∙ c .before .before .if1 .left) }, begun-low _ _ _ (written v) b)
-
-finish-requires : tie.Need-finish-requires
-finish-requires c κs =
-    let x = c .before .before .before .before .before .before .before .before .before .before .before .before .before .before .before .before .before .pre in let v = x .value in let b = x .has .0 in let is = x .has .1 in let w = begun-laid _ _ _ (written v) b in
-    let free = sym (c .before .before .before .before .before .before .before .before .before .before .is-crowded .ensures _ v w is) ∙ c .before .before .before .before .before .before .before .before .before .if1 .left in
-    let before = ap (λ k. k + 1) (c .before .before .before .before .before .before .before .before .before .before .before .before .before .held-all .ensures _ (laid-rows _ _ _ w)) in
-    record { value = _; has = pass-next _ _ _ v b _ is _ 0 (enters _ v _ free) (omega arith) _ before _ _ (c .before .before .before .before .before .before .enter .ensures _ v w refl is (b .dockets) (enters-room _ v _ free)) }
+    let else = c .before .before in
+    let x = entry (else .before) .pre in
+    (record { value = _; has = entering (x .has) (room else (x .value) (x .has)) }, begun-low (x .has .began))
 
 same-length-3 : tie.Need-same-length-3
 same-length-3 c = search needs
@@ -70,26 +69,21 @@ same-length-4 : tie.Need-same-length-4
 same-length-4 c = search needs
 
 returns-2 : tie.Need-returns-2
-returns-2 c = λ v b is.
-    let w = begun-laid _ _ _ (written v) b in
-    let free = sym (c .before .before .before .before .before .before .before .before .before .before .before .before .before .before .before .is-crowded .ensures _ v w is) ∙ c .before .before .before .before .before .before .before .before .before .before .before .before .before .before .if1 .left in
-    let before = ap (λ k. k + 1) (c .before .before .before .before .before .before .before .before .before .before .before .before .before .before .before .before .before .before .held-all .ensures _ (laid-rows _ _ _ w)) in
-    let entered = c .before .before .before .before .before .before .before .before .before .before .before .enter .ensures _ v w refl is (b .dockets) (enters-room _ v _ free) in
-    passed _ _ _ v b _ is _ 0 (enters _ v _ free) (omega arith) _ before _ _ _ (c .before .before .before .before .finish .ensures _ (pass-next _ _ _ v b _ is _ 0 (enters _ v _ free) (omega arith) _ before _ _ entered))
+returns-2 c = λ v k.
+    let done = c .before .before .before .before in
+    let free = room (done .before .before .before) v k in
+    entered k free (done .enter .ensures _ v (begun-laid (k .began)) refl (k .write-is) (k .began .dockets) (enters-room _ v _ free))
 
 pub write-spec : {M : Type 1} → statement M
 write-spec =
     tie.close
     (tie.spec
-    held-all-requires
-    add-before
     is-crowded-requires
     write-crowded-requires
     same-length
     same-length-2
     returns
     enter-requires
-    finish-requires
     same-length-3
     same-length-4
     returns-2)

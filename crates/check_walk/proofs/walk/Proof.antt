@@ -1,4 +1,5 @@
 -- `check_walk::walk`: the invariant says what the rest of the chain has to say of the whole; the unmarked slots grow fewer.
+use Rattle.tables.proofs.Slots.{hi-small}
 use Rattle.check_walk.proofs.Walks.{Going, slot-facts, walk-starts, walk-fails, walk-less, walk-goes, walk-ends}
 use Rattle.check_walk.proofs.Unmarked.{unmarked-le}
 use Rattle.check_walk.specs.Walks.{unmarked}
@@ -21,23 +22,11 @@ abbrev μ-loop : tie.MeasureT-loop
 abbrev entry-of : tie.At-loop Inv-loop μ-loop → tie.Start Inv-loop μ-loop
 entry-of c = c .before .before .before
 
-abbrev in-turn-of : tie.After-slot-fits Inv-loop μ-loop → tie.In-loop Inv-loop μ-loop
-in-turn-of c = c .before .before
-
-abbrev turn-of : tie.In-loop Inv-loop μ-loop → tie.At-loop Inv-loop μ-loop
-turn-of c = c .before
-
-abbrev after-slot-fits-of : tie.Else1 Inv-loop μ-loop → tie.After-slot-fits Inv-loop μ-loop
-after-slot-fits-of c = c .before
-
 abbrev else-1-of : tie.After-order-key Inv-loop μ-loop → tie.Else1 Inv-loop μ-loop
 else-1-of c = c .before .before .before .before .before
 
-abbrev turn-of-2 : tie.After-order-key Inv-loop μ-loop → tie.At-loop Inv-loop μ-loop
-turn-of-2 c = else-1-of c .before .before .before .before
-
-abbrev else-1-of-2 : tie.After-mark Inv-loop μ-loop → tie.Else1 Inv-loop μ-loop
-else-1-of-2 c = c .before .before
+abbrev turn-of : tie.After-order-key Inv-loop μ-loop → tie.At-loop Inv-loop μ-loop
+turn-of c = else-1-of c .before .before .before .before
 
 loop-holds : tie.Need-loop-holds Inv-loop μ-loop
 loop-holds c = walk-starts _ (c .before .before .pre .0)
@@ -54,48 +43,49 @@ same-length c = search needs
 returns : tie.Need-returns Inv-loop μ-loop
 returns c =
     let after-slot-fits = c .before in
-    let in-turn = in-turn-of after-slot-fits in
-    let turn = turn-of in-turn in
+    let in-turn = after-slot-fits .before .before in
+    let turn = in-turn .before in
     walk-fails (turn .loop .inv) (in-turn .loop-test .taken) (fails (after-slot-fits .slot-fits .ensures) (c .if1 .taken))
 
 mark-requires : tie.Need-mark-requires Inv-loop μ-loop
 mark-requires c κs =
     let else-1 = c .before in
-    let after-slot-fits = after-slot-fits-of else-1 in
+    let after-slot-fits = else-1 .before in
     let turn = after-slot-fits .before .before .before in
     let f = slot-facts (holds (after-slot-fits .slot-fits .ensures) (else-1 .if1 .left)) in (omega (arith, turn .loop .inv .len), f .blank)
 
 order-key-requires : tie.Need-order-key-requires Inv-loop μ-loop
 order-key-requires c κs =
     let else-1 = c .before .before .before .before in
-    let after-slot-fits = after-slot-fits-of else-1 in
+    let after-slot-fits = else-1 .before in
     let f = slot-facts (holds (after-slot-fits .slot-fits .ensures) (else-1 .if1 .left)) in omega arith
 
 add-least : tie.Need-add-least Inv-loop μ-loop
 add-least c =
-    let turn = turn-of-2 c in
+    let turn = turn-of c in
     let after-shared-slice-known = turn .before .before in
-    omega (arith, after-shared-slice-known .shared-slice-known .given (4 * turn .loop .at + 1))
+    let entry = after-shared-slice-known .before in
+    omega (arith, c .order-key .ensures, hi-small (entry .args .e .now) (λ i. omega (arith, after-shared-slice-known .shared-slice-known .given i)) (turn .loop .at))
 
 add-count : tie.Need-add-count Inv-loop μ-loop
 add-count c =
-    let turn = turn-of-2 c in
+    let turn = turn-of c in
     let entry = entry-of turn in
     omega (arith, turn .loop .inv .sum, unmarked-le (slots-of (entry .args .e .now)) (entry .args .marks .now))
 
 next-of-requires : tie.Need-next-of-requires Inv-loop μ-loop
 next-of-requires c κs =
     let else-1 = else-1-of c in
-    let after-slot-fits = after-slot-fits-of else-1 in
+    let after-slot-fits = else-1 .before in
     let f = slot-facts (holds (after-slot-fits .slot-fits .ensures) (else-1 .if1 .left)) in omega arith
 
 loop-less : tie.Need-loop-less Inv-loop μ-loop
 loop-less c =
     let after-mark = c .before .before .before .before in
-    let else-1 = else-1-of-2 after-mark in
-    let after-slot-fits = after-slot-fits-of else-1 in
-    let in-turn = in-turn-of after-slot-fits in
-    let turn = turn-of in-turn in
+    let else-1 = after-mark .before .before in
+    let after-slot-fits = else-1 .before in
+    let in-turn = after-slot-fits .before .before in
+    let turn = in-turn .before in
     let entry = entry-of turn in
     rw (after-mark .mark .ensures) (omega (arith, walk-less (turn .loop .inv) (in-turn .loop-test .taken) (entry .pre .1) (holds (after-slot-fits .slot-fits .ensures) (else-1 .if1 .left))))
 
@@ -103,10 +93,10 @@ loop-again : tie.Need-loop-again Inv-loop μ-loop
 loop-again c =
     let after-order-key = c .before in
     let after-mark = after-order-key .before .before .before in
-    let else-1 = else-1-of-2 after-mark in
-    let after-slot-fits = after-slot-fits-of else-1 in
-    let in-turn = in-turn-of after-slot-fits in
-    let turn = turn-of in-turn in
+    let else-1 = after-mark .before .before in
+    let after-slot-fits = else-1 .before in
+    let in-turn = after-slot-fits .before .before in
+    let turn = in-turn .before in
     let entry = entry-of turn in
     rw (c .next-of .ensures, after-order-key .order-key .ensures, after-mark .mark .ensures) (walk-goes (turn .loop .inv) (in-turn .loop-test .taken) (entry .pre .1) (holds (after-slot-fits .slot-fits .ensures) (else-1 .if1 .left)))
 

@@ -1,4 +1,4 @@
--- `guontrem::guontrem_lookup` meets its contract: the answer of `lookup::lookup`, in one number.
+-- `guontrem::guontrem_lookup`: the number that goes out is that of the answer that the lookup gives.
 use mathlib.Core.Path.{ap, _∙_}
 use borrow.Author.Needs.{needs}
 use Rattle.c_packing.specs.Packed.{packed}

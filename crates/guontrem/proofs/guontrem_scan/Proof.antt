@@ -1,5 +1,7 @@
--- `guontrem::guontrem_scan` meets its contract: a walk of its MIR, by hand. All that it knows of `scan` and `pack` is that each meets its contract.
--- `scan` is called with all that the parameters own, at their own lifetimes, shares and ghost names: so what it says of the rows' last list is said of the caller's. The borrow of the rows is given up for good (`gave-slice`).
+-- `guontrem::guontrem_scan`: `scan` leaves the caller's rows as it says, and its answer has room in one number. A walk of the MIR, by hand.
+-- All that it knows of `scan` and `pack` is that each meets its contract. `scan` is called with all that the parameters own, at their own
+-- lifetimes, shares and ghost names: so what it says of the rows' last list is said of the caller's. The borrow of the rows is given up for
+-- good (`gave-slice`).
 -- Assumes nothing.
 use mathlib.Core.Path.{_≡_, refl}
 use Prim.Native.Nat.{ℕ, _<_, _^_}
@@ -17,9 +19,11 @@ use ghost.Atoms.{Atoms, sem}
 use contract.Monad.{Fun, fact}
 use contract.Running.{givenOf, tables, tablesOf}
 use sound.WpLaws.{fmOf, WpFn-mono}
-use types.Kit.{Given, Item, prop, Step, step, ‵, raw, some, later, _⊛_, ⋆, _$_, _∵_, !, qed, by, move, keep, drop, use0, use1, use2, split, join, pick, fsplit, fjoin, feqL, suffices, frame, await, done}
+use types.Kit.{Given, Item, prop, Step, step, ‵, raw, some, later, _⊛_, ⋆, _$_, _∵_, !, qed, by, move, keep, drop, use0, use1, use2, split, join, pick}
+use types.Kit.{fsplit, fjoin, feqL, suffices, frame, await, done}
 use types.Part.{agg, whole, sub, look-in}
-use types.Run.{look, init, forget, stop, hop, fld, from, load, addr, and-then, no-more, assigns, land, returns, enter, alloc1, alloc0, params1, pass1, pass0, free1, free0}
+use types.Run.{look, init, forget, stop, hop, fld, from, load, addr, and-then, no-more, assigns, land, returns, enter}
+use types.Run.{alloc1, alloc0, params1, pass1, pass0, free1, free0}
 use denote.Exit.{yes}
 use denote.RattleType.{owns}
 use denote.Laws.{Is, shows}
@@ -69,8 +73,10 @@ stayed = (
 )
 
 -- a goal P ∗ (⌜φ⌝ ∗ ⌜ψ⌝), as two clauses leave it: both are shown, and P is left
-says-both : {M : Type 1} {𝓤 : URA M} {H : Heap 𝓤} {A : Atoms 𝓤} {K : Type 0} {W : Given 𝓤 H A} {Γ : List (Item 𝓤)} → K → {φ ψ : Type 0} {P : SProp 𝓤} → φ → ψ → Step K W Γ (prop P) Γ (prop (sep 𝓤 P (sep 𝓤 (fact 𝓤 φ) (fact 𝓤 ψ))))
-says-both {𝓤 = 𝓤} t {φ} {ψ} {P} x y = step (λ s. suffices t (sep 𝓤 (sep 𝓤 P (fact 𝓤 φ)) (fact 𝓤 ψ)) (assoc∗ 𝓤 P (fact 𝓤 φ) (fact 𝓤 ψ)) $ says t y $ says t x $ s)
+says-both : {M : Type 1} {𝓤 : URA M} {H : Heap 𝓤} {A : Atoms 𝓤} {K : Type 0} {W : Given 𝓤 H A} {Γ : List (Item 𝓤)}
+    → K → {φ ψ : Type 0} {P : SProp 𝓤} → φ → ψ → Step K W Γ (prop P) Γ (prop (sep 𝓤 P (sep 𝓤 (fact 𝓤 φ) (fact 𝓤 ψ))))
+says-both {𝓤 = 𝓤} t {φ} {ψ} {P} x y =
+    step (λ s. suffices t (sep 𝓤 (sep 𝓤 P (fact 𝓤 φ)) (fact 𝓤 ψ)) (assoc∗ 𝓤 P (fact 𝓤 φ) (fact 𝓤 ψ)) $ says t y $ says t x $ s)
 
 module _ {M : Type 1} (𝓤 : URA M) (H : Heap 𝓤) (A : Atoms 𝓤) (at-mem : Memory → SProp 𝓤) (run : Routine → Fun 𝓤) where
   -- the contracts that the proof cites
@@ -127,32 +133,41 @@ module _ {M : Type 1} (𝓤 : URA M) (H : Heap 𝓤) (A : Atoms 𝓤) (W : Given
   abbrev Left : Scanned → List Row → Type 0
   Left a zs = _≡_ {A = Outcome} (record { answer = a; rows = zs }) (scan-tables (e .now) (l .now) lo hi ys)
 
-  exits : (a : Scanned) (zs : List Row) → Left a zs → length zs ≡ length ys → (n : ℕ) (v : Val) → Is u64 n (v ∷ []) → n ≡ packed-scan a → ent 𝓤 (⋆ 𝓤 H A (Tokens ∷ ‵ (finally T.the-row γ zs) ∷ [])) (Post v)
+  exits : (a : Scanned) (zs : List Row) → Left a zs → length zs ≡ length ys → (n : ℕ) (v : Val) → Is u64 n (v ∷ []) → n ≡ packed-scan a
+      → ent 𝓤 (⋆ 𝓤 H A (Tokens ∷ ‵ (finally T.the-row γ zs) ∷ [])) (Post v)
   exits a zs is len n v is-n n-is =
       let told = packs (e .now) (l .now) lo hi ys zs a is n n-is in
       qed W (Tokens ∷ ‵ (finally T.the-row γ zs) ∷ []) ∵
-      suffices ! _ (ends-at 𝓤 H A f.ended stayed (f.clauses 𝓤 H A at-mem run) W (((κ₁, (κ₂, (κ₃, tt))), (q₁, (q₂, (q₃, tt))), tt, args, vals), tt) v n (tt, (tt, (tt, (tt, (zs, tt))))) (tt, (tt, (tt, (tt, (len, tt)))))) $
+      suffices ! _ (ends-at 𝓤 H A f.ended stayed (f.clauses 𝓤 H A at-mem run) W (((κ₁, (κ₂, (κ₃, tt))), (q₁, (q₂, (q₃, tt))), tt, args, vals), tt) v n
+      (tt, (tt, (tt, (tt, (zs, tt))))) (tt, (tt, (tt, (tt, (len, tt)))))) $
       says-both ! (told .0) (told .1) $ frame ! $
       nothing ! $ move ! (1 ∷ 0 ∷ []) $ fjoin ! $ nothing ! $ fjoin ! $ nothing ! $ fjoin ! $ nothing ! $ fjoin ! $ nothing ! $ fjoin ! $ frame ! $
       owned ! u64 (Is u64) (uint-makes 𝓤 H A W w64) n _ is-n $ done !
 
   module _ (𝓣 : Tables 𝓤 H) (known-scan : Triple 𝓤 (𝓣 .C #scan·scan) (Scan 𝓤 H A at-mem run)) (known-pack : Triple 𝓤 (𝓣 .C #packing·pack-scan) (Pack 𝓤 H A at-mem run)) where
     walk : Room u32 (length (e .now)) → Room u32 (length (l .now)) → lo < 2 ^ 32 → hi < 2 ^ 32 → Room T.the-row (length ys)
-        → ent 𝓤 (onEntry 𝓤 H A f.signature (κ₁, (κ₂, (κ₃, tt))) (q₁, (q₂, (q₃, tt))) args vals) (WpFn 𝓤 H (𝓣 .C) (𝓣 .Λ) code.function (table-at e ∷ table-at l ∷ vint w32 lo ∷ vint w32 hi ∷ rows-at ∷ []) Post)
+        → ent 𝓤 (onEntry 𝓤 H A f.signature (κ₁, (κ₂, (κ₃, tt))) (q₁, (q₂, (q₃, tt))) args vals)
+        (WpFn 𝓤 H (𝓣 .C) (𝓣 .Λ) code.function (table-at e ∷ table-at l ∷ vint w32 lo ∷ vint w32 hi ∷ rows-at ∷ []) Post)
     walk room₁ room₂ low high room₅ =
         qed W Passed ∵ enter ! (𝓣 .C) (𝓣 .Λ) code.function (table-at e ∷ table-at l ∷ vint w32 lo ∷ vint w32 hi ∷ rows-at ∷ []) _ $
-        alloc1 ! (λ l₀. alloc1 ! (λ l₁. alloc1 ! (λ l₂. alloc1 ! (λ l₃. alloc1 ! (λ l₄. alloc1 ! (λ l₅. alloc1 ! (λ l₆. alloc1 ! (λ l₇. alloc1 ! (λ l₈. alloc0 ! $ params1 ! $
+        alloc1 ! (λ l₀. alloc1 ! (λ l₁. alloc1 ! (λ l₂. alloc1 ! (λ l₃. alloc1 ! (λ l₄. alloc1 ! (λ l₅. alloc1 ! (λ l₆.
+        alloc1 ! (λ l₇. alloc1 ! (λ l₈. alloc0 ! $ params1 ! $
         pass1 ! (init ! 14 refl (tt, (tt, (record { fits = room₁ .0 }, tt)))) $ pass1 ! (init ! 12 refl (tt, (tt, (record { fits = room₂ .0 }, tt)))) $
-        pass1 ! (init ! 10 refl (tt, record { fits = low })) $ pass1 ! (init ! 8 refl (tt, record { fits = high })) $ pass1 ! (init ! 6 refl (tt, (tt, (record { fits = room₅ .0 }, tt)))) $ pass0 ! $
+        pass1 ! (init ! 10 refl (tt, record { fits = low })) $ pass1 ! (init ! 8 refl (tt, record { fits = high })) $
+        pass1 ! (init ! 6 refl (tt, (tt, (record { fits = room₅ .0 }, tt)))) $ pass0 ! $
         -- [room for _8, and that it dies; … ; the same of _0; the tokens; what the parameters own]
         assigns ! (addr ! (from ! (fld ! refl (hop ! (look-in ! 6 (sub ! 0 refl (whole !))) (stop !))))) (from ! (stop !)) (init ! 2 refl (tt, tt)) $
-        assigns ! (agg ! (and-then ! (load ! (from ! (stop !)) (look ! 2 refl)) (and-then ! (load ! (from ! (fld ! refl (stop !))) (look-in ! 6 (sub ! 1 refl (whole !)))) (no-more !)))) (from ! (stop !)) (init ! 0 refl (tt, (tt, (record { fits = room₅ .0 }, tt)))) $
+        assigns ! (agg ! (and-then ! (load ! (from ! (stop !)) (look ! 2 refl)) (and-then ! (load ! (from ! (fld ! refl (stop !)))
+        (look-in ! 6 (sub ! 1 refl (whole !)))) (no-more !)))) (from ! (stop !)) (init ! 0 refl (tt, (tt, (record { fits = room₅ .0 }, tt)))) $
         -- `scan`
         move ! (18 ∷ 19 ∷ []) $ use2 W (raw (Scan 𝓤 H A at-mem run .pre to-scan)) goes-scan $
         calls-at ! (fmOf 𝓤 H (W .laws) 𝓣) (Scan 𝓤 H A at-mem run) known-scan to-scan
-        (and-then ! (load ! (from ! (stop !)) (look ! 15 refl)) (and-then ! (load ! (from ! (stop !)) (look ! 13 refl)) (and-then ! (load ! (from ! (stop !)) (look ! 11 refl)) (and-then ! (load ! (from ! (stop !)) (look ! 9 refl)) (and-then ! (load ! (from ! (stop !)) (look ! 1 refl)) (no-more !)))))) (λ w.
-        use1 W (later (some (λ (a : Scanned). (Tokens ⊛ ‵ (C.the-row .own a (w ∷ []))) ⊛ raw (ensured 𝓤 H A scan.ended (scan.clauses 𝓤 H A at-mem run) (κ₁, (κ₂, (κ₃, tt))) args tt a)))) (id⊢ 𝓤 _) $ await ! tt $ pick ! (λ a.
-        split ! $ move ! (1 ∷ []) $ use1 W (some (λ (zs : Unit {0} × (Unit {0} × (Unit {0} × (Unit {0} × (List Row × Unit {0}))))). ‵ (lasts scan.ended (κ₁, (κ₂, (κ₃, tt))) args zs) ⊛ raw (fact 𝓤 (Left a (zs .1 .1 .1 .1 .0))))) (id⊢ 𝓤 _) $ pick ! (λ zs.
+        (and-then ! (load ! (from ! (stop !)) (look ! 15 refl)) (and-then ! (load ! (from ! (stop !)) (look ! 13 refl)) (and-then ! (load ! (from ! (stop !)) (look ! 11 refl))
+        (and-then ! (load ! (from ! (stop !)) (look ! 9 refl)) (and-then ! (load ! (from ! (stop !)) (look ! 1 refl)) (no-more !)))))) (λ w.
+        use1 W (later (some (λ (a : Scanned). (Tokens ⊛ ‵ (C.the-row .own a (w ∷ []))) ⊛
+        raw (ensured 𝓤 H A scan.ended (scan.clauses 𝓤 H A at-mem run) (κ₁, (κ₂, (κ₃, tt))) args tt a)))) (id⊢ 𝓤 _) $ await ! tt $ pick ! (λ a.
+        split ! $ move ! (1 ∷ []) $ use1 W (some (λ (zs : Unit {0} × (Unit {0} × (Unit {0} × (Unit {0} × (List Row × Unit {0}))))).
+        ‵ (lasts scan.ended (κ₁, (κ₂, (κ₃, tt))) args zs) ⊛ raw (fact 𝓤 (Left a (zs .1 .1 .1 .1 .0))))) (id⊢ 𝓤 _) $ pick ! (λ zs.
         split ! $ move ! (1 ∷ []) $ heard ! (Left a (zs .1 .1 .1 .1 .0)) (λ is.
         fsplit ! $ drop ! $ fsplit ! $ drop ! $ fsplit ! $ drop ! $ fsplit ! $ drop ! $ fsplit ! $ fsplit ! $ move ! (1 ∷ []) $ feqL ! (λ len.
         -- [the last list; true; the tokens and the answer; _8; …]
@@ -161,12 +176,15 @@ module _ {M : Type 1} (𝓤 : URA M) (H : Heap 𝓤) (A : Atoms 𝓤) (W : Given
         land ! (from ! (stop !)) (init ! 7 refl (LL.lawful C.the-type C′.the-laws 𝓤 H A W .typed a _ is-a .0)) $
         -- `pack`
         use0 W (raw (Pack 𝓤 H A at-mem run .pre (to-pack a w))) (goes-pack a w is-a (packable (e .now) (l .now) lo hi ys (zs .1 .1 .1 .1 .0) a is)) $
-        calls-at ! (fmOf 𝓤 H (W .laws) 𝓣) (Pack 𝓤 H A at-mem run) known-pack (to-pack a w) (and-then ! (load ! (from ! (stop !)) (look ! 8 refl)) (no-more !)) (λ v.
-        use1 W (later (some (λ (n : ℕ). (‵ ftrue ⊛ ‵ (u64 .own n (v ∷ []))) ⊛ raw (ensured 𝓤 H A pack.ended (pack.clauses 𝓤 H A at-mem run) tt (a, tt) tt n)))) (id⊢ 𝓤 _) $ await ! tt $ pick ! (λ n.
+        calls-at ! (fmOf 𝓤 H (W .laws) 𝓣) (Pack 𝓤 H A at-mem run) known-pack (to-pack a w)
+        (and-then ! (load ! (from ! (stop !)) (look ! 8 refl)) (no-more !)) (λ v.
+        use1 W (later (some (λ (n : ℕ). (‵ ftrue ⊛ ‵ (u64 .own n (v ∷ []))) ⊛
+        raw (ensured 𝓤 H A pack.ended (pack.clauses 𝓤 H A at-mem run) tt (a, tt) tt n)))) (id⊢ 𝓤 _) $ await ! tt $ pick ! (λ n.
         split ! $ move ! (1 ∷ []) $ use1 W (raw (fact 𝓤 (n ≡ packed-scan a))) (pack-of 𝓤 H A at-mem run a n) $ heard ! (n ≡ packed-scan a) (λ n-is.
         split ! $ drop ! $ facts ! u64 (Is u64) (shows 𝓤 H A u64) n (v ∷ []) (λ is-n.
         land ! (from ! (stop !)) (init ! 19 refl (uint-lawful 𝓤 H A W w64 .typed n _ is-n .0)) $
-        returns ! (look ! 19 refl) $ forget ! 3 refl $ forget ! 5 refl $ forget ! 7 refl $ forget ! 9 refl $ forget ! 11 refl $ forget ! 13 refl $ forget ! 15 refl $ forget ! 17 refl $ forget ! 19 refl $
+        returns ! (look ! 19 refl) $ forget ! 3 refl $ forget ! 5 refl $ forget ! 7 refl $ forget ! 9 refl $ forget ! 11 refl $
+        forget ! 13 refl $ forget ! 15 refl $ forget ! 17 refl $ forget ! 19 refl $
         keep ! (19 ∷ 20 ∷ 17 ∷ 18 ∷ 15 ∷ 16 ∷ 13 ∷ 14 ∷ 11 ∷ 12 ∷ 9 ∷ 10 ∷ 7 ∷ 8 ∷ 5 ∷ 6 ∷ 3 ∷ 4 ∷ 0 ∷ 1 ∷ []) $
         free1 ! $ free1 ! $ free1 ! $ free1 ! $ free1 ! $ free1 ! $ free1 ! $ free1 ! $ free1 ! $ free0 ! $
         by ! (exits a (zs .1 .1 .1 .1 .0) is len n v is-n n-is))))))))))))))))))))
@@ -188,7 +206,10 @@ module _ {M : Type 1} (𝓤 : URA M) (H : Heap 𝓤) (A : Atoms 𝓤) (W : Given
         goes-dropped 𝓤 H A W 3 (shrSliceOf (0 ∷ []) tt (plain (λ _. u32))) yes (λ κs x f. refl),
         (
           goes-dropped 𝓤 H A W 3 (shrSliceOf (1 ∷ []) tt (plain (λ _. u32))) yes (λ κs x f. refl),
-          (goes-dropped 𝓤 H A W 3 (plain (λ _. u32)) yes (λ κs x f. refl), (goes-dropped 𝓤 H A W 3 (plain (λ _. u32)) yes (λ κs x f. refl), (goes-gave-slice 𝓤 H A W 3 2 tt (plain (λ _. T.the-row)), tt))),
+          (
+            goes-dropped 𝓤 H A W 3 (plain (λ _. u32)) yes (λ κs x f. refl),
+            (goes-dropped 𝓤 H A W 3 (plain (λ _. u32)) yes (λ κs x f. refl), (goes-gave-slice 𝓤 H A W 3 2 tt (plain (λ _. T.the-row)), tt)),
+          ),
         ),
       )
       (f.clauses 𝓤 H A at-mem run) (WpFn 𝓤 H (𝓣 .C) (𝓣 .Λ) code.function) (WpFn-mono 𝓤 H (W .laws) 𝓣 code.function) guontrem-scan-walks

@@ -5,6 +5,7 @@ use native.Mathlib.Numerals.{add-one}
 use native.Mathlib.Omega.{arith}
 use borrow.Author.Needs.{needs}
 use lib.ListN.{length, length-set}
+use Rattle.tables.proofs.Slots.{hi-small}
 use Rattle.tables.specs.Slots.{hi-of}
 use Rattle.tables.specs.Words.{Fits32}
 use Rattle.chain_cover.specs.Skips.{Ahead}
@@ -73,7 +74,7 @@ hi-of-requires c κs =
 add-lesser : tie.Need-add-lesser Inv-loop μ-loop
 add-lesser c =
     let s = c .before .before .before in
-    omega (arith, c .hi-of .ensures, words (level s) (4 * s .skip .result + 1))
+    omega (arith, c .hi-of .ensures, hi-small (entry (level s) .args .e .now) (words (level s)) (s .skip .result))
 
 lesser-requires : tie.Need-lesser-requires Inv-loop μ-loop
 lesser-requires c κs = search needs

@@ -1,4 +1,4 @@
--- `script_command::is_early` meets its contract.
+-- `script_command::is_early`: with a store no command is too early, without one any but a making.
 use borrow.Author.Needs.{needs}
 use borrow.Author.Tests.{eq-eqb, ne-eqb}
 use Rattle.script_command.proofs.is_early.Statement.{statement}

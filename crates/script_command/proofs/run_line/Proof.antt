@@ -1,4 +1,4 @@
--- `script_command::run_line` meets its contract.
+-- `script_command::run_line`: a line that is read is carried out as its command, any other is answered by 9; and the memory still has room for its store.
 use mathlib.Core.Path.{_≡_, refl, sym, ap, _∙_}
 use mathlib.Core.List.{List}
 use Prim.Native.Nat.{ℕ}
@@ -14,7 +14,13 @@ use Rattle.script_command.proofs.Sizes.{still-fits}
 use Rattle.script_command.proofs.run_line.Statement.{statement}
 use Rattle.script_command.proofs.run_line.Tie as tie
 
--- The memory as the call began.
+-- Where the code stands: at its entry, and once the command is known; and the memory as the call began.
+abbrev entry : tie.After-read-line → tie.Start
+entry c = c .before .before .before .before
+
+abbrev known : tie.After-run-command → tie.After-command
+known c = c .before .before .before .before
+
 abbrev M : tie.Start → Memory
 M s = memory (s .args .entries .now) (s .args .levels .now) (s .args .size)
 
@@ -37,9 +43,12 @@ alone-requires c κs = search needs
 
 returns : tie.Need-returns
 returns c =
-    let s = c .before .before .before .before .before .before .before in
-    let told = ap (stepped (s .args .entries .now) (s .args .levels .now)) (c .alone .ensures) ∙ unreadable _ (M s) (sym (c .before .before .before .read-line .ensures) ∙ c .before .enum-told .given .1) in
-    (told, fits-then s _ _ _ refl refl told)
+    let told = c .before in
+    let at = told .before .before in
+    let s = entry at in
+    let is = ap (stepped (s .args .entries .now) (s .args .levels .now)) (c .alone .ensures)
+    ∙ unreadable _ (M s) (sym (at .read-line .ensures) ∙ told .enum-told .given .1) in
+    (is, fits-then s _ _ _ refl refl is)
 
 run-command-requires : tie.Need-run-command-requires
 run-command-requires c κs = search needs
@@ -52,10 +61,16 @@ same-length-2 c = search needs
 
 returns-2 : tie.Need-returns-2
 returns-2 c =
-    let s = c .before .before .before .before .before .before .before .before .before .before .before .before .before .before in
-    let k = c .before .before .before .before .run-command in
-    let told = commanded (line-of (s .args .text .now)) (c .before .before .before .before .before .before .before .before .command .given .0 .0) (M s) (stepped (k .last .1 .0) (k .last .1 .1 .0) (k .result)) (sym (c .before .before .before .before .before .before .before .before .before .before .read-line .ensures) ∙ c .before .before .before .before .before .before .before .before .command .given .1) (k .ensures) in
-    (told, fits-then s (k .last .1 .0) (k .last .1 .1 .0) (k .result) (k .kept .1 .0) (k .kept .1 .1 .0) told)
+    let done = c .before .before .before .before in
+    let command = known done .command in
+    let at = known done .before .before in
+    let s = entry at in
+    let k = done .run-command in
+    let e = k .last .1 .0 in
+    let l = k .last .1 .1 .0 in
+    let is = commanded (line-of (s .args .text .now)) (command .given .0 .0) (M s) (stepped e l (k .result))
+    (sym (at .read-line .ensures) ∙ command .given .1) (k .ensures) in
+    (is, fits-then s e l (k .result) (k .kept .1 .0) (k .kept .1 .1 .0) is)
 
 pub run-line-spec : {M : Type 1} → statement M
 run-line-spec =

@@ -1,28 +1,47 @@
--- `script_store::run_lookup` meets its contract.
-use mathlib.Core.Path.{refl, sym, _∙_}
+-- `script_store::run_lookup`: the lookup reads the words of the store alone, and each of its answers prints its numbers.
+use mathlib.Core.Path.{_≡_, refl, sym, _∙_}
 use borrow.Author.Needs.{needs}
+use Rattle.lookup.specs.declared.Answer.{Answer}
+use Rattle.lookup.specs.Lookup.{numbers}
+use Rattle.script_store.specs.declared.Turn.{Turn}
+use Rattle.script_store.specs.Memory.{finds}
+use Rattle.script_store.specs.Coded.{memory, stepped}
 use Rattle.script_store.proofs.Parts.{lent-length, entry-part, level-part}
 use Rattle.script_store.proofs.Turns.{found}
 use Rattle.script_store.proofs.run_lookup.Statement.{statement}
 use Rattle.script_store.proofs.run_lookup.Tie as tie
 
-add-words : tie.Need-add-words
-add-words c = search needs
+-- Where the code stands: at its entry, and once the lengths are reckoned.
+abbrev entry : tie.After-level-length → tie.Start
+entry c = c .before .before .before .before
 
-mul-words : tie.Need-mul-words
-mul-words c = search needs
+abbrev lent : tie.After-lookup → tie.After-level-length
+lent c = c .before .before .before
 
-add-rows : tie.Need-add-rows
-add-rows c = search needs
+-- What is printed for the answer a that was found.
+prints : (c : tie.After-lookup) (a : Answer) {r : Turn} → c .lookup .result ≡ a
+    → let s = entry (lent c) .args in
+    r ≡ record { slots = s .size .slots; deepest = s .size .deepest; first = numbers a .refusal; second = numbers a .found; third = numbers a .tally }
+    → stepped (s .entries .now) (s .levels .now) r ≡ finds (s .key) (memory (s .entries .now) (s .levels .now) (s .size))
+prints c a is =
+    let at = lent c in
+    found (entry at .pre) (at .before .entry-length .ensures) (at .level-length .ensures) (entry at .args .key) a (sym is ∙ c .lookup .ensures)
 
-mul-rows : tie.Need-mul-rows
-mul-rows c = search needs
+entry-length-requires : tie.Need-entry-length-requires
+entry-length-requires c κs = search needs
+
+level-length-requires : tie.Need-level-length-requires
+level-length-requires c κs = search needs
 
 slice-aggregate-lookup : tie.Need-slice-aggregate-lookup
-slice-aggregate-lookup c = let s = c .before .before .before .before .before in lent-length (s .args .entries .now) _ (entry-part (s .pre))
+slice-aggregate-lookup c =
+    let at = c .before in
+    lent-length (entry at .args .entries .now) _ (entry-part (entry at .pre) (at .before .entry-length .ensures))
 
 slice-aggregate-lookup-2 : tie.Need-slice-aggregate-lookup-2
-slice-aggregate-lookup-2 c = let s = c .before .before .before .before .before .before in lent-length (s .args .levels .now) _ (level-part (s .pre))
+slice-aggregate-lookup-2 c =
+    let at = c .before .before in
+    lent-length (entry at .args .levels .now) _ (level-part (entry at .pre) (at .level-length .ensures))
 
 lookup-requires : tie.Need-lookup-requires
 lookup-requires c κs = search needs
@@ -43,28 +62,20 @@ enum-known-value : tie.Need-enum-known-value
 enum-known-value c = search needs
 
 returns : tie.Need-returns
-returns c =
-    let s = c .before .before .before .before .before .before .before .before .before .before .before in
-    found (s .args .entries .now) (s .args .levels .now) (s .args .size) (s .pre) (s .args .key) (c .alone .result) _ (sym (c .before .before .number .given .1) ∙ c .before .before .before .before .lookup .ensures) (c .alone .ensures)
+returns c = let arm = c .before .before in prints (arm .before .before) _ (arm .number .given .1) (c .alone .ensures)
 
 returns-2 : tie.Need-returns-2
-returns-2 c =
-    let s = c .before .before .before .before .before .before .before .before .before .before in
-    found (s .args .entries .now) (s .args .levels .now) (s .args .size) (s .pre) (s .args .key) (c .alone2 .result) _ (sym (c .before .enum-told .given .1) ∙ c .before .before .before .lookup .ensures) (c .alone2 .ensures)
+returns-2 c = prints (c .before .before .before) _ (c .before .enum-told .given .1) (c .alone2 .ensures)
 
 returns-3 : tie.Need-returns-3
-returns-3 c =
-    let s = c .before .before .before .before .before .before .before .before .before .before in
-    found (s .args .entries .now) (s .args .levels .now) (s .args .size) (s .pre) (s .args .key) _ _ (sym (c .before .value .given .1) ∙ c .before .before .before .lookup .ensures) refl
+returns-3 c = prints (c .before .before .before) _ (c .before .value .given .1) refl
 
 pub run-lookup-spec : {M : Type 1} → statement M
 run-lookup-spec =
     tie.close
     (tie.spec
-    add-words
-    mul-words
-    add-rows
-    mul-rows
+    entry-length-requires
+    level-length-requires
     slice-aggregate-lookup
     slice-aggregate-lookup-2
     lookup-requires

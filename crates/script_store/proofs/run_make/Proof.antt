@@ -1,11 +1,26 @@
--- `script_store::run_make` meets its contract.
+-- `script_store::run_make`: the making is lent as many words as the store that it asks for has, and the store is that one only where it is accepted.
 use mathlib.Core.Path.{ap, _∙_}
 use borrow.Author.Needs.{needs}
+use Rattle.settings.specs.declared.Settings.{Settings}
 use Rattle.script_store.specs.Coded.{stepped}
 use Rattle.script_store.proofs.Parts.{lent-length, make-entry-part, make-level-part}
 use Rattle.script_store.proofs.Makes.{too-many, make-refused, make-accepted}
 use Rattle.script_store.proofs.run_make.Statement.{statement}
 use Rattle.script_store.proofs.run_make.Tie as tie
+
+-- Where the code stands: at its entry, once the lengths are reckoned, and once the making is done.
+abbrev entry : tie.After-level-room → tie.Start
+entry c = c .before .before .before .before .before
+
+abbrev lent : tie.After-make → tie.After-level-room
+lent c = c .before .before .before
+
+abbrev made : tie.After-slice-known4 → tie.After-make
+made c = c .before .before .before .before
+
+-- The settings that were asked for.
+abbrev settings : tie.Start → Settings
+settings s = let a = s .args in record { deepest = a .deepest; ratio = a .ratio; buffer = a .buffer; term = a .term }
 
 alone-requires : tie.Need-alone-requires
 alone-requires c κs = search needs
@@ -13,37 +28,29 @@ alone-requires c κs = search needs
 returns : tie.Need-returns
 returns c =
     let s = c .before .before .before .before in
-    let a = s .args in
-    ap (stepped (a .entries .now) (a .levels .now)) (c .alone .ensures) ∙ too-many (a .entries .now) (a .levels .now) (a .size) (s .pre) (a .slots) (record { deepest = a .deepest; ratio = a .ratio; buffer = a .buffer; term = a .term }) (c .before .if1 .taken)
+    ap (stepped (s .args .entries .now) (s .args .levels .now)) (c .alone .ensures) ∙ too-many (s .pre) (s .args .slots) (settings s) (c .before .if1 .taken)
 
-add-words : tie.Need-add-words
-add-words c = search needs
+entry-length-requires : tie.Need-entry-length-requires
+entry-length-requires c κs = search needs
 
-mul-words : tie.Need-mul-words
-mul-words c = search needs
-
-level-words-requires : tie.Need-level-words-requires
-level-words-requires c κs = search needs
+level-room-requires : tie.Need-level-room-requires
+level-room-requires c κs = search needs
 
 slice-relend-prefix-make : tie.Need-slice-relend-prefix-make
 slice-relend-prefix-make c = search needs
 
 slice-aggregate-make : tie.Need-slice-aggregate-make
 slice-aggregate-make c =
-    let s = c .before .before .before .before .before in
-    lent-length (s .args .entries .now) _ (make-entry-part (s .pre) (s .args .slots) (c .before .before .if1 .left))
+    let at = c .before in
+    lent-length (entry at .args .entries .now) _ (make-entry-part (entry at .pre) (at .before .entry-length .ensures) (at .before .before .if1 .left))
 
 slice-relend-prefix-make-2 : tie.Need-slice-relend-prefix-make-2
-slice-relend-prefix-make-2 c =
-    let s = c .before .before .before .before .before in
-    let w = c .before .level-words in
-    make-level-part (s .pre) (s .args .deepest) (w .result) (w .ensures)
+slice-relend-prefix-make-2 c = let at = c .before in make-level-part (entry at .pre) (entry at .args .deepest) (at .level-room .ensures)
 
 slice-aggregate-make-2 : tie.Need-slice-aggregate-make-2
 slice-aggregate-make-2 c =
-    let s = c .before .before .before .before .before .before in
-    let w = c .before .before .level-words in
-    lent-length (s .args .levels .now) (w .result) (make-level-part (s .pre) (s .args .deepest) (w .result) (w .ensures))
+    let at = c .before .before in
+    lent-length (entry at .args .levels .now) _ (make-level-part (entry at .pre) (entry at .args .deepest) (at .level-room .ensures))
 
 make-requires : tie.Need-make-requires
 make-requires c κs = search needs
@@ -59,11 +66,12 @@ same-length-2 c = search needs
 
 returns-2 : tie.Need-returns-2
 returns-2 c =
-    let s = c .before .before .before .before .before .before .before .before .before .before .before .before .before in
-    let a = s .args in
-    let w = c .before .before .before .before .before .before .before .before .before .level-words in
-    let k = c .before .before .before .before .before .before .make in
-    ap (stepped _ _) (c .alone2 .ensures) ∙ make-refused (a .entries .now) (a .levels .now) (a .size) (s .pre) (a .slots) (record { deepest = a .deepest; ratio = a .ratio; buffer = a .buffer; term = a .term }) (c .before .before .before .before .before .before .before .before .before .before .if1 .left) (w .result) (w .ensures) (k .result) (k .last .0) (k .last .1 .0) (k .ensures) (c .before .if2 .taken)
+    let done = made (c .before .before) in
+    let at = lent done in
+    let k = done .make in
+    ap (stepped _ _) (c .alone2 .ensures)
+    ∙ make-refused (entry at .pre) (entry at .args .slots) (settings (entry at)) (at .before .before .if1 .left) (at .before .entry-length .ensures)
+    (at .level-room .ensures) (k .result) (k .last .0) (k .last .1 .0) (k .ensures) (c .before .if2 .taken)
 
 same-length-3 : tie.Need-same-length-3
 same-length-3 c = search needs
@@ -73,11 +81,11 @@ same-length-4 c = search needs
 
 returns-3 : tie.Need-returns-3
 returns-3 c =
-    let s = c .before .before .before .before .before .before .before .before .before .before .before .before in
-    let a = s .args in
-    let w = c .before .before .before .before .before .before .before .before .level-words in
-    let k = c .before .before .before .before .before .make in
-    make-accepted (a .entries .now) (a .levels .now) (a .size) (s .pre) (a .slots) (record { deepest = a .deepest; ratio = a .ratio; buffer = a .buffer; term = a .term }) (c .before .before .before .before .before .before .before .before .before .if1 .left) (w .result) (w .ensures) (k .result) (k .last .0) (k .last .1 .0) (k .ensures) (c .if2 .left) (k .kept .0) (k .kept .1 .0)
+    let done = made (c .before) in
+    let at = lent done in
+    let k = done .make in
+    make-accepted (entry at .pre) (entry at .args .slots) (settings (entry at)) (at .before .before .if1 .left) (at .before .entry-length .ensures)
+    (at .level-room .ensures) (k .result) (k .last .0) (k .last .1 .0) (k .ensures) (c .if2 .left) (k .kept .0) (k .kept .1 .0)
 
 pub run-make-spec : {M : Type 1} → statement M
 run-make-spec =
@@ -85,9 +93,8 @@ run-make-spec =
     (tie.spec
     alone-requires
     returns
-    add-words
-    mul-words
-    level-words-requires
+    entry-length-requires
+    level-room-requires
     slice-relend-prefix-make
     slice-aggregate-make
     slice-relend-prefix-make-2

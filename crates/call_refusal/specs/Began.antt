@@ -1,0 +1,28 @@
+-- The refusals that a timed call can meet at once, and a call that meets none of them.
+use mathlib.Core.Path.{_≡_}
+use mathlib.Core.Bool.{false, cond}
+use mathlib.Core.List.{List}
+use Prim.Native.Nat.{ℕ}
+use lib.Dec.{eqb}
+use Rattle.model.specs.Calls.{Op, bad-docket, bad-clock}
+use Rattle.tables.specs.Slots.{slots-of, clock-of}
+use Rattle.tables.specs.Words.{Fits32}
+use Rattle.tables.specs.Sound.{table-refusal}
+use Rattle.tables.specs.Placed.{read-state}
+use Rattle.check_refusal.specs.Dockets.{docket-refusal}
+use Rattle.merge_levels.specs.Laid.{Store}
+
+-- "The order is the table's": 1 to 4, then 5; 0 for none of them.
+abbrev pub call-refusal : List ℕ → List ℕ → ℕ → ℕ → ℕ → ℕ
+call-refusal e l t lo hi = cond (eqb (docket-refusal e l lo hi) 0) (cond (bad-clock t (clock-of e)) 5 0) (docket-refusal e l lo hi)
+
+-- A call that meets none of them.
+pub record Began (e l : List ℕ) (t : ℕ) (op : Op ℕ) : Type 0 where
+  pub sound : table-refusal e l ≡ 0
+  pub fits : Fits32 e
+  pub dockets : bad-docket op ≡ false
+  pub time : bad-clock t (clock-of e) ≡ false
+
+-- The store in the tables, at the time of the call.
+abbrev pub store : List ℕ → List ℕ → ℕ → Store
+store e l t = record { slots = slots-of e; time = t; state = read-state e l }

@@ -1,0 +1,2 @@
+-- A timed call's operation.
+pub mod Ops

@@ -1,0 +1,13 @@
+-- The code's operation as the definitions'.
+use Prim.Native.Nat.{ℕ}
+use Rattle.model.specs.Steps.{put, delete, delete-range}
+use Rattle.model.specs.Calls as model
+use Rattle.call_timed.specs.declared.Op.{Op}
+use Rattle.call_timed.specs.declared.Op.the-variants.{Put, Delete, DeleteRange, Flush, Tick}
+
+abbrev pub op-of : Op → model.Op ℕ
+op-of (Put docket tally) = model.written (put docket tally)
+op-of (Delete docket) = model.written (delete docket)
+op-of (DeleteRange lo hi) = model.written (delete-range lo hi)
+op-of Flush = model.flush
+op-of Tick = model.tick
