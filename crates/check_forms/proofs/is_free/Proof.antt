@@ -21,13 +21,26 @@ tally-of-requires : tie.Need-tally-of-requires
 tally-of-requires c κs = search needs
 
 returns-3 : tie.Need-returns-3
-returns-3 c = rw (equal (c .before .before .before .before .before .kind-of .ensures) refl (c .before .before .before .before .if1 .left), equal (c .before .before .before .span-of .ensures) refl (c .before .before .if2 .left), unequal (c .before .tally-of .ensures) refl (c .if3 .taken))
+returns-3 c =
+    let after-tally-of = c .before in
+    let else-2 = after-tally-of .before in
+    let after-span-of = else-2 .before in
+    let else-1 = after-span-of .before in
+    let after-kind-of = else-1 .before in
+    rw (equal (after-kind-of .kind-of .ensures) refl (else-1 .if1 .left), equal (after-span-of .span-of .ensures) refl (else-2 .if2 .left), unequal (after-tally-of .tally-of .ensures) refl (c .if3 .taken))
 
 stamp-of-requires : tie.Need-stamp-of-requires
 stamp-of-requires c κs = search needs
 
 returns-4 : tie.Need-returns-4
-returns-4 c = rw (equal (c .before .before .before .before .before .before .kind-of .ensures) refl (c .before .before .before .before .before .if1 .left), equal (c .before .before .before .before .span-of .ensures) refl (c .before .before .before .if2 .left), equal (c .before .before .tally-of .ensures) refl (c .before .if3 .left), c .stamp-of .ensures)
+returns-4 c =
+    let else-3 = c .before in
+    let after-tally-of = else-3 .before in
+    let else-2 = after-tally-of .before in
+    let after-span-of = else-2 .before in
+    let else-1 = after-span-of .before in
+    let after-kind-of = else-1 .before in
+    rw (equal (after-kind-of .kind-of .ensures) refl (else-1 .if1 .left), equal (after-span-of .span-of .ensures) refl (else-2 .if2 .left), equal (after-tally-of .tally-of .ensures) refl (else-3 .if3 .left), c .stamp-of .ensures)
 
 pub is-free-spec : {M : Type 1} → statement M
 is-free-spec =

@@ -21,13 +21,31 @@ tally-of-requires : tie.Need-tally-of-requires
 tally-of-requires c κs = search needs
 
 returns-2 : tie.Need-returns-2
-returns-2 c = rw (equal (c .before .before .before .before .before .lo-of .ensures) (c .before .before .before .before .hi-of .ensures) (c .before .before .before .if1 .left), equal (c .before .before .kind-of .ensures) refl (c .if2 .taken))
+returns-2 c =
+    let after-kind-of = c .before .before in
+    let else-1 = after-kind-of .before in
+    let after-hi-of = else-1 .before in
+    let after-lo-of = after-hi-of .before in
+    rw (equal (after-lo-of .lo-of .ensures) (after-hi-of .hi-of .ensures) (else-1 .if1 .left), equal (after-kind-of .kind-of .ensures) refl (c .if2 .taken))
 
 returns-3 : tie.Need-returns-3
-returns-3 c = rw (equal (c .before .before .before .before .before .before .lo-of .ensures) (c .before .before .before .before .before .hi-of .ensures) (c .before .before .before .before .if1 .left), unequal (c .before .before .before .kind-of .ensures) refl (c .before .if2 .left), unequal (c .before .before .before .kind-of .ensures) refl (c .if3 .taken))
+returns-3 c =
+    let else-2 = c .before in
+    let after-kind-of = else-2 .before .before in
+    let else-1 = after-kind-of .before in
+    let after-hi-of = else-1 .before in
+    let after-lo-of = after-hi-of .before in
+    rw (equal (after-lo-of .lo-of .ensures) (after-hi-of .hi-of .ensures) (else-1 .if1 .left), unequal (after-kind-of .kind-of .ensures) refl (else-2 .if2 .left), unequal (after-kind-of .kind-of .ensures) refl (c .if3 .taken))
 
 returns-4 : tie.Need-returns-4
-returns-4 c = rw (equal (c .before .before .before .before .before .before .lo-of .ensures) (c .before .before .before .before .before .hi-of .ensures) (c .before .before .before .before .if1 .left), unequal (c .before .before .before .kind-of .ensures) refl (c .before .if2 .left), equal (c .before .before .before .kind-of .ensures) refl (c .if3 .left), c .before .before .tally-of .ensures)
+returns-4 c =
+    let else-2 = c .before in
+    let after-tally-of = else-2 .before in
+    let after-kind-of = after-tally-of .before in
+    let else-1 = after-kind-of .before in
+    let after-hi-of = else-1 .before in
+    let after-lo-of = after-hi-of .before in
+    rw (equal (after-lo-of .lo-of .ensures) (after-hi-of .hi-of .ensures) (else-1 .if1 .left), unequal (after-kind-of .kind-of .ensures) refl (else-2 .if2 .left), equal (after-kind-of .kind-of .ensures) refl (c .if3 .left), after-tally-of .tally-of .ensures)
 
 pub is-point-spec : {M : Type 1} → statement M
 is-point-spec =

@@ -18,13 +18,24 @@ kind-of-requires : tie.Need-kind-of-requires
 kind-of-requires c κs = search needs
 
 returns-2 : tie.Need-returns-2
-returns-2 c = rw (upto (c .before .before .before .lo-of .ensures) (c .before .before .before .before .hi-of .ensures) (c .before .before .if1 .left), unequal (c .before .kind-of .ensures) refl (c .if2 .taken))
+returns-2 c =
+    let after-kind-of = c .before in
+    let else-1 = after-kind-of .before in
+    let after-lo-of = else-1 .before in
+    let after-hi-of = after-lo-of .before in
+    rw (upto (after-lo-of .lo-of .ensures) (after-hi-of .hi-of .ensures) (else-1 .if1 .left), unequal (after-kind-of .kind-of .ensures) refl (c .if2 .taken))
 
 tally-of-requires : tie.Need-tally-of-requires
 tally-of-requires c κs = search needs
 
 returns-3 : tie.Need-returns-3
-returns-3 c = rw (upto (c .before .before .before .before .lo-of .ensures) (c .before .before .before .before .before .hi-of .ensures) (c .before .before .before .if1 .left), equal (c .before .before .kind-of .ensures) refl (c .before .if2 .left), c .tally-of .ensures)
+returns-3 c =
+    let else-2 = c .before in
+    let after-kind-of = else-2 .before in
+    let else-1 = after-kind-of .before in
+    let after-lo-of = else-1 .before in
+    let after-hi-of = after-lo-of .before in
+    rw (upto (after-lo-of .lo-of .ensures) (after-hi-of .hi-of .ensures) (else-1 .if1 .left), equal (after-kind-of .kind-of .ensures) refl (else-2 .if2 .left), c .tally-of .ensures)
 
 pub is-range-spec : {M : Type 1} → statement M
 is-range-spec =

@@ -25,7 +25,12 @@ owed-before-requires c κs = search needs
 
 returns-3 : tie.Need-returns-3
 unfolding record-fits
-returns-3 c = rw (upto refl (c .before .before .before .before .order-key .ensures) (c .before .before .before .if1 .left), holds (c .before .before .is-stamped .ensures) (c .before .if2 .left)) (c .owed-before .ensures)
+returns-3 c =
+    let else-2 = c .before in
+    let after-is-stamped = else-2 .before in
+    let else-1 = after-is-stamped .before in
+    let after-order-key = else-1 .before in
+    rw (upto refl (after-order-key .order-key .ensures) (else-1 .if1 .left), holds (after-is-stamped .is-stamped .ensures) (else-2 .if2 .left)) (c .owed-before .ensures)
 
 pub record-fits-spec : {M : Type 1} → statement M
 record-fits-spec =

@@ -12,7 +12,10 @@ same-length : tie.Need-same-length
 same-length c = search needs
 
 returns : tie.Need-returns
-returns c = rw (eq-eqb (c .before .before .before .before .before .before .args .slot) (c .before .before .before .before .before .before .args .slots) (omega arith)) (c .before .before .set-free .ensures)
+returns c =
+    let after-set-free = c .before .before in
+    let entry = after-set-free .before .before .before .before in
+    rw (eq-eqb (entry .args .slot) (entry .args .slots) (omega arith)) (after-set-free .set-free .ensures)
 
 add-set-free : tie.Need-add-set-free
 add-set-free c = search needs
@@ -24,7 +27,10 @@ same-length-2 : tie.Need-same-length-2
 same-length-2 c = search needs
 
 returns-2 : tie.Need-returns-2
-returns-2 c = rw (ne-eqb (c .before .before .before .before .before .before .args .slot) (c .before .before .before .before .before .before .args .slots) (omega arith)) (c .before .before .set-free2 .ensures)
+returns-2 c =
+    let after-set-free2 = c .before .before in
+    let entry = after-set-free2 .before .before .before .before in
+    rw (ne-eqb (entry .args .slot) (entry .args .slots) (omega arith)) (after-set-free2 .set-free2 .ensures)
 
 pub free-slot-spec : {M : Type 1} → statement M
 free-slot-spec =

@@ -14,14 +14,27 @@ Inv-loop entries₀ slots slot₀ entries slot = (1 ≤ slot) × (slot ≤ slots
 abbrev μ-loop : tie.MeasureT-loop
 μ-loop entries₀ slots slot₀ entries slot = slots + 1 - slot
 
+-- Where the code stands, seen from a later place.
+abbrev after-slice-known-of : tie.At-loop Inv-loop μ-loop → tie.After-slice-known Inv-loop μ-loop
+after-slice-known-of c = c .before .before .before .before .before
+
+abbrev entry-of : tie.At-loop Inv-loop μ-loop → tie.Start Inv-loop μ-loop
+entry-of c = after-slice-known-of c .before
+
 set-top-requires : tie.Need-set-top-requires Inv-loop μ-loop
 set-top-requires c κs = (omega arith, omega arith)
 
 loop-holds : tie.Need-loop-holds Inv-loop μ-loop
-loop-holds c = (omega arith, omega arith, rw (c .before .before .set-top .ensures) (agree-next slot-parts (made-entries (c .before .before .before .before .before .args .slots)) (c .before .before .before .before .before .args .entries .now) 0 _ (agree-none slot-parts _ _ (omega (arith, length-made-entries (c .before .before .before .before .before .args .slots)))) (omega arith) (made-entries-first (c .before .before .before .before .before .args .slots))))
+loop-holds c =
+    let after-set-top = c .before .before in
+    let entry = after-set-top .before .before .before in
+    (omega arith, omega arith, rw (after-set-top .set-top .ensures) (agree-next slot-parts (made-entries (entry .args .slots)) (entry .args .entries .now) 0 _ (agree-none slot-parts _ _ (omega (arith, length-made-entries (entry .args .slots)))) (omega arith) (made-entries-first (entry .args .slots))))
 
 free-slot-requires : tie.Need-free-slot-requires Inv-loop μ-loop
-free-slot-requires c κs = (omega (arith, c .before .before .loop .inv .2 .size, length-made-entries (c .before .before .before .before .before .before .before .before .args .slots)), omega arith, omega arith)
+free-slot-requires c κs =
+    let turn = c .before .before in
+    let entry = entry-of turn in
+    (omega (arith, turn .loop .inv .2 .size, length-made-entries (entry .args .slots)), omega arith, omega arith)
 
 add-slot : tie.Need-add-slot Inv-loop μ-loop
 add-slot c = omega arith
@@ -30,13 +43,23 @@ loop-less : tie.Need-loop-less Inv-loop μ-loop
 loop-less c = omega arith
 
 loop-again : tie.Need-loop-again Inv-loop μ-loop
-loop-again c = (omega arith, omega arith, rw (c .before .before .free-slot .ensures) (agree-next slot-parts (made-entries (c .before .before .before .before .before .before .before .before .before .before .before .args .slots)) (c .before .before .before .before .before .loop .entries) (c .before .before .before .before .before .loop .slot) _ (c .before .before .before .before .before .loop .inv .2) (omega (arith, c .before .before .before .before .before .loop .inv .2 .size, length-made-entries (c .before .before .before .before .before .before .before .before .before .before .before .args .slots))) (made-entries-slot (c .before .before .before .before .before .before .before .before .before .before .before .args .slots) (c .before .before .before .before .before .loop .slot) (c .before .before .before .before .before .loop .inv .0) (omega arith))))
+loop-again c =
+    let after-free-slot = c .before .before in
+    let turn = after-free-slot .before .before .before in
+    let entry = entry-of turn in
+    (omega arith, omega arith, rw (after-free-slot .free-slot .ensures) (agree-next slot-parts (made-entries (entry .args .slots)) (turn .loop .entries) (turn .loop .slot) _ (turn .loop .inv .2) (omega (arith, turn .loop .inv .2 .size, length-made-entries (entry .args .slots))) (made-entries-slot (entry .args .slots) (turn .loop .slot) (turn .loop .inv .0) (omega arith))))
 
 same-length : tie.Need-same-length Inv-loop μ-loop
-same-length c = omega (arith, c .before .loop .inv .2 .size, length-made-entries (c .before .before .before .before .before .before .before .args .slots))
+same-length c =
+    let turn = c .before in
+    let entry = entry-of turn in
+    omega (arith, turn .loop .inv .2 .size, length-made-entries (entry .args .slots))
 
 returns : tie.Need-returns Inv-loop μ-loop
-returns c = let q : c .before .loop .slot ≡ c .before .before .before .before .before .before .before .args .slots + 1 = omega arith in entries-made (c .before .before .before .before .before .before .before .args .slots) _ (rw q at (c .before .loop .inv .2))
+returns c =
+    let turn = c .before in
+    let entry = entry-of turn in
+    let q : turn .loop .slot ≡ entry .args .slots + 1 = omega arith in entries-made (entry .args .slots) _ (rw q at (turn .loop .inv .2))
 
 pub free-slots-spec : {M : Type 1} → statement M
 free-slots-spec =

@@ -17,17 +17,30 @@ Inv-loop levels₀ s i₀ levels i = (i ≤ s .deepest + 1) × (settings-of leve
 abbrev μ-loop : tie.MeasureT-loop
 μ-loop levels₀ s i₀ levels i = s .deepest + 1 - i
 
+-- Where the code stands, seen from a later place.
+abbrev after-slice-known-of : tie.At-loop Inv-loop μ-loop → tie.After-slice-known Inv-loop μ-loop
+after-slice-known-of c = c .before .before .before .before .before
+
+abbrev entry-of : tie.At-loop Inv-loop μ-loop → tie.Start Inv-loop μ-loop
+entry-of c = after-slice-known-of c .before
+
 set-settings-requires : tie.Need-set-settings-requires Inv-loop μ-loop
 set-settings-requires c κs = omega arith
 
 loop-holds : tie.Need-loop-holds Inv-loop μ-loop
-loop-holds c = (omega arith, rw (c .before .before .set-settings .ensures) (settings-same _ _ (omega arith)), agree-none row-parts _ _ (rw (c .before .before .set-settings .ensures) (length-set-settings _ _ ∙ c .before .before .before .before .before .pre ∙ sym (length-made-levels (c .before .before .before .before .before .args .s)))))
+loop-holds c =
+    let after-set-settings = c .before .before in
+    let entry = after-set-settings .before .before .before in
+    (omega arith, rw (after-set-settings .set-settings .ensures) (settings-same _ _ (omega arith)), agree-none row-parts _ _ (rw (after-set-settings .set-settings .ensures) (length-set-settings _ _ ∙ entry .pre ∙ sym (length-made-levels (entry .args .s)))))
 
 cast-if1 : tie.Need-cast-if1 Inv-loop μ-loop
 cast-if1 c = search needs
 
 clear-level-requires : tie.Need-clear-level-requires Inv-loop μ-loop
-clear-level-requires c κs = omega (arith, c .before .before .before .loop .inv .2 .size, length-made-levels (c .before .before .before .before .before .before .before .before .before .args .s))
+clear-level-requires c κs =
+    let turn = c .before .before .before in
+    let entry = entry-of turn in
+    omega (arith, turn .loop .inv .2 .size, length-made-levels (entry .args .s))
 
 add-i : tie.Need-add-i Inv-loop μ-loop
 add-i c = omega arith
@@ -36,13 +49,23 @@ loop-less : tie.Need-loop-less Inv-loop μ-loop
 loop-less c = omega arith
 
 loop-again : tie.Need-loop-again Inv-loop μ-loop
-loop-again c = (omega arith, rw (c .before .before .clear-level .ensures) (settings-stay _ _ _ ∙ c .before .before .before .before .before .before .loop .inv .1), rw (c .before .before .clear-level .ensures) (agree-next row-parts _ _ (c .before .before .before .before .before .before .loop .i) no-row (c .before .before .before .before .before .before .loop .inv .2) (omega (arith, c .before .before .before .before .before .before .loop .inv .2 .size, length-made-levels (c .before .before .before .before .before .before .before .before .before .before .before .before .args .s))) (made-levels-row (c .before .before .before .before .before .before .before .before .before .before .before .before .args .s) (c .before .before .before .before .before .before .loop .i) (omega arith))))
+loop-again c =
+    let after-clear-level = c .before .before in
+    let turn = after-clear-level .before .before .before .before in
+    let entry = entry-of turn in
+    (omega arith, rw (after-clear-level .clear-level .ensures) (settings-stay _ _ _ ∙ turn .loop .inv .1), rw (after-clear-level .clear-level .ensures) (agree-next row-parts _ _ (turn .loop .i) no-row (turn .loop .inv .2) (omega (arith, turn .loop .inv .2 .size, length-made-levels (entry .args .s))) (made-levels-row (entry .args .s) (turn .loop .i) (omega arith))))
 
 same-length : tie.Need-same-length Inv-loop μ-loop
-same-length c = omega (arith, c .before .before .loop .inv .2 .size, length-made-levels (c .before .before .before .before .before .before .before .before .args .s))
+same-length c =
+    let turn = c .before .before in
+    let entry = entry-of turn in
+    omega (arith, turn .loop .inv .2 .size, length-made-levels (entry .args .s))
 
 returns : tie.Need-returns Inv-loop μ-loop
-returns c = let q : c .before .before .loop .i ≡ c .before .before .before .before .before .before .before .before .args .s .deepest + 1 = omega arith in levels-made (c .before .before .before .before .before .before .before .before .args .s) _ (c .before .before .loop .inv .1) (rw q at (c .before .before .loop .inv .2))
+returns c =
+    let turn = c .before .before in
+    let entry = entry-of turn in
+    let q : turn .loop .i ≡ entry .args .s .deepest + 1 = omega arith in levels-made (entry .args .s) _ (turn .loop .inv .1) (rw q at (turn .loop .inv .2))
 
 pub lay-levels-spec : {M : Type 1} → statement M
 lay-levels-spec =

@@ -12,6 +12,19 @@ use Rattle.merge_pass.proofs.Due.{due-over, due-owing-none, due-owing}
 use Rattle.merge_pass.proofs.is_due.Statement.{statement}
 use Rattle.merge_pass.proofs.is_due.Tie as tie
 
+-- Where the code stands, seen from a later place.
+abbrev after-inner-capacity-of : tie.After-struct-known2 → tie.After-inner-capacity
+after-inner-capacity-of c = c .before .before .before .before .before
+
+abbrev after-level-at-of : tie.After-struct-known2 → tie.After-level-at
+after-level-at-of c = after-inner-capacity-of c .before
+
+abbrev after-settings-of-of : tie.Else2 → tie.After-settings-of
+after-settings-of-of c = c .before .before .before .before .before
+
+abbrev entry-of : tie.Else2 → tie.Start
+entry-of c = after-settings-of-of c .before .before
+
 settings-of-requires : tie.Need-settings-of-requires
 settings-of-requires c κs = search needs
 
@@ -52,27 +65,40 @@ returns c =
 
 returns-2 : tie.Need-returns-2
 returns-2 c =
-    let a = entry (c .before .before .before .before) .args in
-    due-owing-none (settings-of (a .l .now)) (a .clock) (a .i) (level-row (a .l .now) (a .i)) (within (c .before .before)) (omega (arith, c .if2 .taken, owed-is (c .before .before .before .before)))
+    let else-1 = c .before .before in
+    let after-level-at = else-1 .before .before in
+    let a = entry (after-level-at) .args in
+    due-owing-none (settings-of (a .l .now)) (a .clock) (a .i) (level-row (a .l .now) (a .i)) (within (else-1)) (omega (arith, c .if2 .taken, owed-is (after-level-at)))
 
 cast-inner-limit : tie.Need-cast-inner-limit
-cast-inner-limit c = omega (arith, shallow (c .before .before .before .before .before .before .before))
+cast-inner-limit c =
+    let at-entry = entry-of c in
+    omega (arith, shallow (at-entry))
 
 inner-limit-requires : tie.Need-inner-limit-requires
-inner-limit-requires c κs = rw (c .before .before .before .before .before .settings-of .ensures) (c .before .before .before .before .before .before .before .pre .1 .0)
+inner-limit-requires c κs =
+    let after-settings-of = after-settings-of-of c in
+    let at-entry = after-settings-of .before .before in
+    rw (after-settings-of .settings-of .ensures) (at-entry .pre .1 .0)
 
 sub-result : tie.Need-sub-result
-sub-result c = let at = c .before .before .before .before .before .before in omega (arith, owed-is at, entry at .pre .1 .1)
+sub-result c =
+    let after-level-at = after-level-at-of c in
+    omega (arith, owed-is after-level-at, entry after-level-at .pre .1 .1)
 
 cast-result : tie.Need-cast-result
 cast-result c = search needs
 
 returns-3 : tie.Need-returns-3
 returns-3 c =
-    let at = c .before .before .before .before .before .before in
-    let a = entry at .args in
-    rw (c .before .inner-limit .ensures, at .before .settings-of .ensures, owed-is at)
-    (due-owing (settings-of (a .l .now)) (a .clock) (a .i) (level-row (a .l .now) (a .i)) (within (c .before .before .before .before)) (λ z. c .before .before .if2 .left (owed-is at ∙ z)))
+    let after-inner-limit = c .before in
+    let else-2 = after-inner-limit .before in
+    let else-1 = else-2 .before .before in
+    let after-level-at = else-1 .before .before in
+    let after-settings-of = after-level-at .before in
+    let a = entry after-level-at .args in
+    rw (after-inner-limit .inner-limit .ensures, after-settings-of .settings-of .ensures, owed-is after-level-at)
+    (due-owing (settings-of (a .l .now)) (a .clock) (a .i) (level-row (a .l .now) (a .i)) (within (else-1)) (λ z. else-2 .if2 .left (owed-is after-level-at ∙ z)))
 
 pub is-due-spec : {M : Type 1} → statement M
 is-due-spec =

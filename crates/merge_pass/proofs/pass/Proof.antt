@@ -25,13 +25,28 @@ abbrev μ-loop : tie.MeasureT-loop
 abbrev AtEntry : tie.Start Inv-loop μ-loop → Store → Type 0
 AtEntry c g = Laid g (c .args .e .now) (c .args .l .now) × (g .time ≡ c .args .clock)
 
+-- Where the code stands, seen from a later place.
+abbrev in-turn-of : tie.After-pass-level Inv-loop μ-loop → tie.In-loop Inv-loop μ-loop
+in-turn-of c = c .before .before .before
+
+abbrev after-pass-level-of : tie.After-slice-known6 Inv-loop μ-loop → tie.After-pass-level Inv-loop μ-loop
+after-pass-level-of c = c .before .before .before .before
+
+abbrev after-slice-known-of : tie.After-pass-buffer-arg2 Inv-loop μ-loop → tie.After-slice-known Inv-loop μ-loop
+after-slice-known-of c = c .before .before .before .before .before
+
+abbrev entry-of : tie.After-pass-buffer-arg2 Inv-loop μ-loop → tie.Start Inv-loop μ-loop
+entry-of c = after-slice-known-of c .before
+
 deepest-of-requires : tie.Need-deepest-of-requires Inv-loop μ-loop
 deepest-of-requires c κs =
-    let start = c .before .before .before in
-    omega (arith, laid-length (start .pre .value) (start .args .e .now) (start .args .l .now) (start .pre .has .0))
+    let at-entry = c .before .before .before in
+    omega (arith, laid-length (at-entry .pre .value) (at-entry .args .e .now) (at-entry .args .l .now) (at-entry .pre .has .0))
 
 pass-buffer-requires : tie.Need-pass-buffer-requires Inv-loop μ-loop
-pass-buffer-requires c κs = let start = c .before .before .before .before .before .before in record { value = start .pre .value; has = start .pre .has .0 }
+pass-buffer-requires c κs =
+    let at-entry = entry-of c in
+    record { value = at-entry .pre .value; has = at-entry .pre .has .0 }
 
 loop-holds : tie.Need-loop-holds Inv-loop μ-loop
 loop-holds c = (refl, refl, omega arith, λ g goal now deep w. w)
@@ -62,11 +77,12 @@ in-turn c g h = let a = entry (c .before) .args in omega (arith, c .loop-test .t
 
 pass-level-requires : tie.Need-pass-level-requires Inv-loop μ-loop
 pass-level-requires c κs =
-    let at = c .before .before .before in
-    let g = entry at .pre .value in
-    let h = entry at .pre .has in
-    let w = reached at g h in
-    record { value = reached-store w; has = (w .worked .laid, h .1, at .loop .inv .2, reached-level w (in-turn (c .before .before) g h)) }
+    let at-in-turn = c .before .before in
+    let at-turn = at-in-turn .before in
+    let g = entry at-turn .pre .value in
+    let h = entry at-turn .pre .has in
+    let w = reached at-turn g h in
+    record { value = reached-store w; has = (w .worked .laid, h .1, at-turn .loop .inv .2, reached-level w (in-turn (at-in-turn) g h)) }
 
 abbrev turn : tie.After-pass-level Inv-loop μ-loop → tie.At-loop Inv-loop μ-loop
 turn c = c .before .before .before .before
@@ -95,25 +111,31 @@ few c =
     few-more (pass-counts (clock-of c)) w high (done c g (pass (clock-of c) (begin (g .state))) (h .1) high w)
 
 add-merges : tie.Need-add-merges Inv-loop μ-loop
-add-merges c = omega (arith, few (c .before .before .before .before), shallow (c .before .before .before .before .before .before .before))
+add-merges c =
+    let after-pass-level = after-pass-level-of c in
+    let at-in-turn = in-turn-of after-pass-level in
+    omega (arith, few (after-pass-level), shallow (at-in-turn))
 
 add-i : tie.Need-add-i Inv-loop μ-loop
-add-i c = omega (arith, shallow (c .before .before .before .before .before .before .before))
+add-i c =
+    let at-in-turn = in-turn-of (c .before .before .before .before) in
+    omega (arith, shallow (at-in-turn))
 
 loop-less : tie.Need-loop-less Inv-loop μ-loop
 loop-less c = omega arith
 
 loop-again : tie.Need-loop-again Inv-loop μ-loop
-loop-again c = (
-  search needs,
-  search needs,
-  omega arith,
-  λ g goal now deep w₀.
-      let past = c .before .before .before .before in
-      let w = turn past .loop .inv .3 g goal now deep w₀ in
-      let high : turn past .loop .i < g .state .settings .deepest = omega (arith, c .before .before .before .before .before .before .before .loop-test .taken) in
-      reached-next (pass-counts (clock-of past)) w high (done past g goal now high w),
-)
+loop-again c =
+    let after-pass-level = after-pass-level-of c in
+    let at-in-turn = in-turn-of after-pass-level in (
+      search needs,
+      search needs,
+      omega arith,
+      λ g goal now deep w₀.
+          let w = turn after-pass-level .loop .inv .3 g goal now deep w₀ in
+          let high : turn after-pass-level .loop .i < g .state .settings .deepest = omega (arith, at-in-turn .loop-test .taken) in
+          reached-next (pass-counts (clock-of after-pass-level)) w high (done after-pass-level g goal now high w),
+    )
 
 same-length : tie.Need-same-length Inv-loop μ-loop
 same-length c = search needs

@@ -27,11 +27,20 @@ read c =
     let row = c .before .before .level-at in
     (held-read (row .result) (entry-of c .args .l .now) 0 (row .ensures), ap (λ (s : Settings). s .buffer) (c .settings-of .ensures))
 
+-- Where the code stands, seen from a later place.
+abbrev after-slice-known-of : tie.After-settings-of → tie.After-slice-known
+after-slice-known-of c = c .before .before .before .before .before
+
+abbrev entry-of-2 : tie.After-settings-of → tie.Start
+entry-of-2 c = after-slice-known-of c .before
+
 level-at-requires : tie.Need-level-at-requires
 level-at-requires c κs = rows (c .before .before .before)
 
 settings-of-requires : tie.Need-settings-of-requires
-settings-of-requires c κs = omega (arith, rows (c .before .before .before .before .before))
+settings-of-requires c κs =
+    let entry = c .before .before .before .before .before in
+    omega (arith, rows (entry))
 
 cast-if1 : tie.Need-cast-if1
 cast-if1 c = search needs
@@ -40,10 +49,15 @@ same-length : tie.Need-same-length
 same-length c = search needs
 
 returns : tie.Need-returns
-returns c = λ g laid. let a = c .before .before .before .before .before .before .before .before .before .args in buffer-stays g (a .e .now) (a .l .now) (laid-buffer-due g (a .e .now) (a .l .now) laid ∙ lt-leb (settings-of (a .l .now) .buffer) (level-row (a .l .now) 0 .held) (omega (arith, c .if1 .taken, read (c .before .before .before)))) laid
+returns c = λ g laid.
+    let after-settings-of = c .before .before .before in
+    let entry = entry-of-2 after-settings-of in
+    let a = entry .args in buffer-stays g (a .e .now) (a .l .now) (laid-buffer-due g (a .e .now) (a .l .now) laid ∙ lt-leb (settings-of (a .l .now) .buffer) (level-row (a .l .now) 0 .held) (omega (arith, c .if1 .taken, read (after-settings-of)))) laid
 
 merge-level-requires : tie.Need-merge-level-requires
-merge-level-requires c κs = record { value = c .before .before .before .before .before .before .before .before .before .before .before .pre .value; has = (c .before .before .before .before .before .before .before .before .before .before .before .pre .has, omega (arith, laid-allowed (c .before .before .before .before .before .before .before .before .before .before .before .pre .value) (c .before .before .before .before .before .before .before .before .before .before .before .args .e .now) (c .before .before .before .before .before .before .before .before .before .before .before .args .l .now) (c .before .before .before .before .before .before .before .before .before .before .before .pre .has))) }
+merge-level-requires c κs =
+    let entry = entry-of-2 (c .before .before .before .before .before) in
+    record { value = entry .pre .value; has = (entry .pre .has, omega (arith, laid-allowed (entry .pre .value) (entry .args .e .now) (entry .args .l .now) (entry .pre .has))) }
 
 same-length-2 : tie.Need-same-length-2
 same-length-2 c = search needs
@@ -52,7 +66,12 @@ same-length-3 : tie.Need-same-length-3
 same-length-3 c = search needs
 
 returns-2 : tie.Need-returns-2
-returns-2 c = λ g laid. let a = c .before .before .before .before .before .before .before .before .before .before .before .before .before .before .before .before .args in buffer-merged g (c .before .before .before .before .merge-level .last .0) (c .before .before .before .before .merge-level .last .1 .0) (laid-buffer-due g (a .e .now) (a .l .now) laid ∙ le-leb (settings-of (a .l .now) .buffer) (level-row (a .l .now) 0 .held) (omega (arith, c .before .before .before .before .before .before .before .if1 .left, read (c .before .before .before .before .before .before .before .before .before .before)))) (c .before .before .before .before .merge-level .ensures g laid (omega (arith, laid-allowed g (a .e .now) (a .l .now) laid)))
+returns-2 c = λ g laid.
+    let after-merge-level = c .before .before .before .before in
+    let else-1 = after-merge-level .before .before .before in
+    let after-settings-of = else-1 .before .before .before in
+    let entry = entry-of-2 after-settings-of in
+    let a = entry .args in buffer-merged g (after-merge-level .merge-level .last .0) (after-merge-level .merge-level .last .1 .0) (laid-buffer-due g (a .e .now) (a .l .now) laid ∙ le-leb (settings-of (a .l .now) .buffer) (level-row (a .l .now) 0 .held) (omega (arith, else-1 .if1 .left, read (after-settings-of)))) (after-merge-level .merge-level .ensures g laid (omega (arith, laid-allowed g (a .e .now) (a .l .now) laid)))
 
 pub pass-buffer-spec : {M : Type 1} → statement M
 pass-buffer-spec =

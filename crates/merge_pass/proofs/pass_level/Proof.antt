@@ -15,10 +15,10 @@ use Rattle.merge_pass.proofs.pass_level.Tie as tie
 
 is-due-requires : tie.Need-is-due-requires
 is-due-requires c κs =
-    let start = c .before .before .before in
-    let a = start .args in
-    let g = start .pre .value in
-    let h = start .pre .has in (
+    let at-entry = c .before .before .before in
+    let a = at-entry .args in
+    let g = at-entry .pre .value in
+    let h = at-entry .pre .has in (
       omega (arith, laid-length g (a .e .now) (a .l .now) (h .0), h .3),
       (laid-inner g (a .e .now) (a .l .now) (h .0) (a .i) (h .2) (h .3), omega (arith, h .1, laid-owed g (a .e .now) (a .l .now) (h .0) (a .i) (omega (arith, h .3)))),
     )
@@ -50,9 +50,12 @@ same-length-3 c = search needs
 
 returns-2 : tie.Need-returns-2
 returns-2 c = λ g laid now low deep.
-    let a = entry (c .before .before .before .before .before .before .before .before) .args in
-    let merge = c .before .before .before .before .merge-level in
-    level-merged g (merge .last .0) (merge .last .1 .0) (a .clock) (a .i) (holds (found (c .before .before .before .before .before .before .before .before) g laid deep) (c .before .before .before .before .before .before .before .if1 .left)) (merge .ensures g laid deep)
+    let after-merge-level = c .before .before .before .before in
+    let else-1 = after-merge-level .before .before .before in
+    let after-is-due = else-1 .before in
+    let a = entry (after-is-due) .args in
+    let merge = after-merge-level .merge-level in
+    level-merged g (merge .last .0) (merge .last .1 .0) (a .clock) (a .i) (holds (found (after-is-due) g laid deep) (else-1 .if1 .left)) (merge .ensures g laid deep)
 
 pub pass-level-spec : {M : Type 1} → statement M
 pass-level-spec =

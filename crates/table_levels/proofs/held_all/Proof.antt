@@ -15,6 +15,10 @@ Inv-loop l levels held₀ i₀ held i = (i ≤ levels) × ((p : State ℕ ℕ) �
 abbrev μ-loop : tie.MeasureT-loop
 μ-loop l levels held₀ i₀ held i = levels - i
 
+-- Where the code stands, seen from a later place.
+abbrev entry-of : tie.At-loop Inv-loop μ-loop → tie.Start Inv-loop μ-loop
+entry-of c = c .before .before .before
+
 deepest-of-requires : tie.Need-deepest-of-requires Inv-loop μ-loop
 deepest-of-requires c κs = let x = c .before .pre in omega (arith, rows-length (x .value) _ (x .has))
 
@@ -25,23 +29,32 @@ loop-holds : tie.Need-loop-holds Inv-loop μ-loop
 loop-holds c = (omega arith, λ p r. rw (c .deepest-of .ensures) (adds-nothing p _ r))
 
 held-at-requires : tie.Need-held-at-requires Inv-loop μ-loop
-held-at-requires c κs = let x = c .before .before .before .before .pre in omega (arith, c .before .loop .inv .1 (x .value) (x .has) .room, c .loop-test .taken)
+held-at-requires c κs =
+    let turn = c .before in
+    let entry = entry-of turn in
+    let x = entry .pre in omega (arith, turn .loop .inv .1 (x .value) (x .has) .room, c .loop-test .taken)
 
 -- One level more has been added up.
 added : (c : tie.After-held-at Inv-loop μ-loop) (p : State ℕ ℕ) → RowsAre p (c .before .before .before .before .before .args .l .now)
     → Adds p (c .before .before .before .before .before .args .l .now) (c .before .before .before .deepest-of .result + 1)
     (c .before .before .loop .held + c .held-at .result) (c .before .before .loop .i + 1)
 added c p r =
-    let turn = c .before .before in
-    rw (c .held-at .ensures) (adds-one p _ r _ _ _ (turn .loop .inv .1 p r) (c .before .loop-test .taken))
+    let in-turn = c .before in
+    let turn = in-turn .before in
+    rw (c .held-at .ensures) (adds-one p _ r _ _ _ (turn .loop .inv .1 p r) (in-turn .loop-test .taken))
 
 add-held : tie.Need-add-held Inv-loop μ-loop
-add-held c = let x = c .before .before .before .before .before .pre in omega (arith, added c (x .value) (x .has) .sum-is, x .has .few)
+add-held c =
+    let entry = entry-of (c .before .before) in
+    let x = entry .pre in omega (arith, added c (x .value) (x .has) .sum-is, x .has .few)
 
 add-i : tie.Need-add-i Inv-loop μ-loop
 add-i c =
-    let x = c .before .before .before .before .before .pre in
-    omega (arith, c .before .loop-test .taken, c .before .before .loop .inv .1 (x .value) (x .has) .room)
+    let in-turn = c .before in
+    let turn = in-turn .before in
+    let entry = entry-of turn in
+    let x = entry .pre in
+    omega (arith, in-turn .loop-test .taken, turn .loop .inv .1 (x .value) (x .has) .room)
 
 loop-less : tie.Need-loop-less Inv-loop μ-loop
 loop-less c = omega (arith, c .before .loop-test .taken)

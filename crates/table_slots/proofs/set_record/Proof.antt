@@ -24,9 +24,11 @@ same-length c = search needs
 
 returns : tie.Need-returns
 returns c =
-    let a = c .before .before .before .before .before .args in
+    let after-set-slot = c .before .before in
+    let entry = after-set-slot .before .before .before in
+    let a = entry .args in
     let none : 65536 * a .kind ≡ link-to 0 (a .kind) = omega arith in
-    c .before .before .set-slot .ensures ∙ ap (λ (k : ℕ). set-slot (a .e .now) (a .slot) (record { link = k; span = span-from (a .lo) (a .hi); tally = a .tally; stamp = a .stamp })) none
+    after-set-slot .set-slot .ensures ∙ ap (λ (k : ℕ). set-slot (a .e .now) (a .slot) (record { link = k; span = span-from (a .lo) (a .hi); tally = a .tally; stamp = a .stamp })) none
 
 pub set-record-spec : {M : Type 1} → statement M
 set-record-spec =
