@@ -1,4 +1,4 @@
--- `seek`: the loop keeps that the chain from `at` is ordered, and that what begins at the docket or later stands in it as in the whole chain.
+-- `seek`: the loop keeps that the chain from `at` is ordered, and that what begins at the docket or later stands in it as in the chain from `from`.
 use mathlib.Core.Path.{_≡_, refl, sym, ap, _∙_}
 use native.Mathlib.Omega.{arith}
 use lib.ListN.{length}

@@ -16,7 +16,7 @@ abbrev μ-loop : tie.MeasureT-loop
 
 -- Where the code stands, seen from a later place.
 abbrev entry : tie.In-loop Inv-loop μ-loop → tie.Start Inv-loop μ-loop
-entry c = c .before .before .before .before .before .before
+entry c = let deepest-read = c .before .before in deepest-read .before .before .before .before
 
 abbrev asked : tie.Else1 Inv-loop μ-loop → tie.After-level Inv-loop μ-loop
 asked c = c .before .before .before .before

@@ -7,14 +7,14 @@ use Rattle.check_level.proofs.level.Statement.{statement}
 use Rattle.check_level.proofs.level.Tie as tie
 
 -- Where the code stands, seen from a later place.
-abbrev points-fit : tie.Else2 → tie.Else1
-points-fit c = c .before .before .before .before .before .before
-
 abbrev points-walked : tie.Else1 → tie.After-walk
 points-walked c = c .before .before .before .before
 
 abbrev ranges-walked : tie.Else2 → tie.After-walk2
 ranges-walked c = c .before .before .before .before
+
+abbrev points-fit : tie.Else2 → tie.Else1
+points-fit c = ranges-walked c .before .before
 
 level-at-requires : tie.Need-level-at-requires
 level-at-requires c κs = search needs

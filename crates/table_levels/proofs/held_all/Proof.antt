@@ -1,4 +1,4 @@
--- The loop keeps: the sum so far, with what the levels from i on hold, is what all hold.
+-- `held_all`: the loop keeps that the sum so far, with what the levels from i on hold, is what all hold.
 use mathlib.Core.Path.{_≡_, refl, ap, _∙_}
 use Prim.Native.Nat.{ℕ, _+_, _-_, _≤_}
 use native.Mathlib.Omega.{arith}
