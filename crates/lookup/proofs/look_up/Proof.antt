@@ -44,9 +44,11 @@ add-levels c = omega (arith, c .deepest-of .ensures, c .before .before .before .
 
 loop-holds : tie.Need-loop-holds Inv-loop μ-loop
 loop-holds c =
-    let a = c .before .before .before .args in
-    (omega arith, omega (arith, c .deepest-of .ensures),
-    look-all (a .e .now) (a .l .now) (a .docket) _ _ (omega (arith, c .deepest-of .ensures)) (omega arith))
+    let a = c .before .before .before .args in (
+      omega arith,
+      omega (arith, c .deepest-of .ensures),
+      look-all (a .e .now) (a .l .now) (a .docket) _ _ (omega (arith, c .deepest-of .ensures)) (omega arith),
+    )
 
 sub-level : tie.Need-sub-level Inv-loop μ-loop
 sub-level c = omega arith

@@ -33,9 +33,12 @@ loop-holds c =
     let entry = top-set .before .before .before in
     let n = entry .args .slots in
     let e = entry .args .entries .now in
-    let none = agree-none slot-parts (made-entries n) e (omega (arith, length-made-entries n)) in
-    (omega arith, omega arith, rw (top-set .set-top .ensures)
-    (agree-next slot-parts (made-entries n) e 0 _ none (omega arith) (made-entries-first n)))
+    let none = agree-none slot-parts (made-entries n) e (omega (arith, length-made-entries n)) in (
+      omega arith,
+      omega arith,
+      rw (top-set .set-top .ensures)
+          (agree-next slot-parts (made-entries n) e 0 _ none (omega arith) (made-entries-first n)),
+    )
 
 free-slot-requires : tie.Need-free-slot-requires Inv-loop μ-loop
 free-slot-requires c κs =
@@ -55,9 +58,12 @@ loop-again c =
     let entry = entry-of turn in
     let n = entry .args .slots in
     let now = turn .loop in
-    let is = made-entries-slot n (now .slot) (now .inv .0) (omega arith) in
-    (omega arith, omega arith, rw (written .free-slot .ensures)
-    (agree-next slot-parts (made-entries n) (now .entries) (now .slot) _ (now .inv .2) (omega (arith, same-size turn)) is))
+    let is = made-entries-slot n (now .slot) (now .inv .0) (omega arith) in (
+      omega arith,
+      omega arith,
+      rw (written .free-slot .ensures)
+          (agree-next slot-parts (made-entries n) (now .entries) (now .slot) _ (now .inv .2) (omega (arith, same-size turn)) is),
+    )
 
 same-length : tie.Need-same-length Inv-loop μ-loop
 same-length c =

@@ -59,9 +59,12 @@ loop-again c =
     let entry = entry-of turn in
     let now = turn .loop in
     let is = cleared .clear-level .ensures in
-    let blank = made-levels-row (entry .args .s) (now .i) (omega arith) in
-    (omega arith, rw is (settings-stay _ _ _ ∙ now .inv .1), rw is
-    (agree-next row-parts _ _ (now .i) no-row (now .inv .2) (omega (arith, same-size turn)) blank))
+    let blank = made-levels-row (entry .args .s) (now .i) (omega arith) in (
+      omega arith,
+      rw is (settings-stay _ _ _ ∙ now .inv .1),
+      rw is
+          (agree-next row-parts _ _ (now .i) no-row (now .inv .2) (omega (arith, same-size turn)) blank),
+    )
 
 same-length : tie.Need-same-length Inv-loop μ-loop
 same-length c =
