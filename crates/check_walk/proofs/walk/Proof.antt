@@ -5,7 +5,6 @@ use Rattle.check_walk.proofs.Unmarked.{unmarked-le}
 use Rattle.check_walk.specs.Walks.{unmarked}
 use Rattle.tables.specs.Sound.{chain-from}
 use Rattle.tables.specs.Slots.{slots-of}
-use Prim.Native.Nat.{_+_, _*_}
 use mathlib.Core.Path.{_≡_}
 use mathlib.Core.Bool.{true}
 use Rattle.check_walk.specs.Slots.{slot-fits}

@@ -1,9 +1,8 @@
 -- `look_level`: the chains of the level's row are those that the level reads as.
-use mathlib.Core.Path.{_≡_, ap, _∙_}
+use mathlib.Core.Path.{ap, _∙_}
 use native.Mathlib.Omega.{arith}
 use Rattle.table_levels.specs.declared.Level.{Level}
 use Rattle.lookup_level.specs.Answers.{level-decides, chain-level}
-use borrow.Author.Needs.{needs}
 use Rattle.lookup.proofs.look_level.Statement.{statement}
 use Rattle.lookup.proofs.look_level.Tie as tie
 
