@@ -90,7 +90,8 @@ relinked n clock free (d ∷ ds) h h′ rest e inside c =
     }
 
 -- The first cell of the chain after the place: no other cell has its slot, so that a change of its row leaves the others.
-module _ (n clock : ℕ) (free : List ℕ) (done : List Cell) (h : ℕ) (x : Cell) (xs : List Cell) (others : List (List Cell)) (e : List ℕ) (c : Cut n clock free done h ((x ∷ xs) ∷ others) e) where
+module _ (n clock : ℕ) (free : List ℕ) (done : List Cell) (h : ℕ) (x : Cell) (xs : List Cell) (others : List (List Cell)) (e : List ℕ)
+    (c : Cut n clock free done h ((x ∷ xs) ∷ others) e) where
   pub first-inside : (1 ≤ x .slot) × (x .slot ≤ n)
   first-inside = (c .each .1 .0 .0, c .each .1 .0 .1)
 
@@ -152,8 +153,10 @@ shifted n clock free done h x xs ys others e c =
     let inside = first-inside n clock free done h x xs (ys ∷ others) e c in
     let off : Off s e e′ = λ t ne nz. linked-other e s (head ys) t ne in
     let stay = rest-stays n clock free done h x xs (ys ∷ others) e c e′ off in
+    let own = c .each .1 .0 in
+    let to = head-small n e ys (c .each .1 .1 .0) in
     let row : slot-at e′ s ≡ cell-slot (head ys) x =
-    link-row n (c .small) e (c .room) (head xs) (head ys) (head-small n e ys (c .each .1 .1 .0)) x (inside .1) (head-small n e xs (c .each .1 .0 .3)) (c .each .1 .0 .2) in
+    link-row n (c .small) e (c .room) (head xs) (head ys) to x (inside .1) (head-small n e xs (own .3)) (own .2) in
     record {
       small = c .small;
       room = length-linked e s (head ys) ∙ c .room;

@@ -115,12 +115,15 @@ module _ (n : ℕ) (small : n ≤ 65535) (e : List ℕ) (room : length e ≡ ent
       ∙ ap (λ (k : ℕ). with-link (link-to h′ k) (slot-at e (c .slot))) kind≡
       ∙ ap (with-link (link-to h′ (c .kind))) r
 
-  pub relink : (c : Cell) (cs : List Cell) → ((s : ℕ) → times s (cell-slots (c ∷ cs)) ≤ 1) → ChainedTo n e h (c ∷ cs) → ChainedTo n (linked e (last-from (c .slot) cs) h′) h′ (c ∷ cs)
+  pub relink : (c : Cell) (cs : List Cell) → ((s : ℕ) → times s (cell-slots (c ∷ cs)) ≤ 1) → ChainedTo n e h (c ∷ cs)
+      → ChainedTo n (linked e (last-from (c .slot) cs) h′) h′ (c ∷ cs)
   relink c [] o k = (k .0, k .1, link-row c (k .1) (k .3) (k .2), inside)
   relink c (d ∷ ds) o k =
       let ne : c .slot ≢ last-from (d .slot) ds = λ q.
-      absurd (omega (arith, o (c .slot), times-head (c .slot) (cell-slots (d ∷ ds)), ap (λ (s : ℕ). times s (cell-slots (d ∷ ds))) q, last-stands (d .slot) ds)) in
-      (k .0, k .1, linked-other e (last-from (d .slot) ds) h′ (c .slot) ne ∙ k .2, relink d ds (λ s. omega (arith, o s, times-tail s (c .slot) (cell-slots (d ∷ ds)))) (k .3))
+      let last = ap (λ (s : ℕ). times s (cell-slots (d ∷ ds))) q in
+      absurd (omega (arith, o (c .slot), times-head (c .slot) (cell-slots (d ∷ ds)), last, last-stands (d .slot) ds)) in
+      let rest = relink d ds (λ s. omega (arith, o s, times-tail s (c .slot) (cell-slots (d ∷ ds)))) (k .3) in
+      (k .0, k .1, linked-other e (last-from (d .slot) ds) h′ (c .slot) ne ∙ k .2, rest)
 
 -- A number of each slot, summed over chains.
 abbrev pub weigh : (ℕ → ℕ) → List (List Cell) → ℕ

@@ -50,7 +50,8 @@ last-append s [] c = refl
 last-append s (d ∷ ds) c = last-append (d .slot) ds c
 
 -- A place in a chain of a held table.
-module _ (n clock : ℕ) (free : List ℕ) (done left : List Cell) (others : List (List Cell)) (e : List ℕ) (h : Held n clock free ((done ++ left) ∷ others) e) where
+module _ (n clock : ℕ) (free : List ℕ) (done left : List Cell) (others : List (List Cell)) (e : List ℕ)
+    (h : Held n clock free ((done ++ left) ∷ others) e) where
   here : Cut n clock free done (head left) (left ∷ others) e
   here = cut n clock free done left others e h
 
@@ -75,7 +76,8 @@ module _ (n clock : ℕ) (free : List ℕ) (done left : List Cell) (others : Lis
   pub place-length : length (chain-from e (head left)) ≡ length left
   place-length = ap length place-chain ∙ length-map left (λ (c : Cell). c .slot)
 
-module _ (n clock : ℕ) (free : List ℕ) (done : List Cell) (c : Cell) (cs : List Cell) (others : List (List Cell)) (e : List ℕ) (h : Held n clock free ((done ++ c ∷ cs) ∷ others) e) where
+module _ (n clock : ℕ) (free : List ℕ) (done : List Cell) (c : Cell) (cs : List Cell) (others : List (List Cell)) (e : List ℕ)
+    (h : Held n clock free ((done ++ c ∷ cs) ∷ others) e) where
   at-place : Chained n e (c ∷ cs)
   at-place = cut n clock free done (c ∷ cs) others e h .each .1 .0
 

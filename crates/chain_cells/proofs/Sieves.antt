@@ -69,7 +69,8 @@ module _ (g : Sift) (e : List ℕ) (m : Cursor) (w : Sifting g e m) where
   pub cursor-cell : (x : Cell) (xs : List Cell) → w .left ≡ x ∷ xs → cell-at e (m .at) ≡ x
   cursor-cell x xs l =
       ap (cell-at e) (w .here .at-is ∙ ap head l)
-      ∙ place-cell (g .slots) (g .clock) (w .free) (w .done) x xs (g .others) e (subst (λ (cs : List Cell). Held (g .slots) (g .clock) (w .free) ((w .done ++ cs) ∷ g .others) e) l (w .here .held))
+      ∙ place-cell (g .slots) (g .clock) (w .free) (w .done) x xs (g .others) e
+      (subst (λ (cs : List Cell). Held (g .slots) (g .clock) (w .free) ((w .done ++ cs) ∷ g .others) e) l (w .here .held))
 
 -- All that was left is left after a step but the first.
 pub left-after : (g : Sift) (e e′ : List ℕ) (m m′ : Cursor) (w : Sifting g e m) (s : Sifts g e m e′ m′) → s .0 .left ≡ drop 1 (w .left)
@@ -86,7 +87,8 @@ stepped g e e′ m m′ done done′ x xs free free′ w w′ = (
 module _ (g : Sift) (e : List ℕ) (m : Cursor) (nz : m .at ≢ 0) (next : ℕ) (next≡ : next ≡ next-of e (m .at)) where
   -- The code's test is that of the cell, and its next slot that of the cells that follow.
   test-is : (done : List Cell) (x : Cell) (xs : List Cell) (free : List ℕ) → SiftAt g e m done (x ∷ xs) free → g .test x ≡ g .test (cell-at e (m .at))
-  test-is done x xs free w = sym (ap (λ (s : ℕ). g .test (cell-at e s)) (w .at-is) ∙ ap (g .test) (place-cell (g .slots) (g .clock) free done x xs (g .others) e (w .held)))
+  test-is done x xs free w =
+      sym (ap (λ (s : ℕ). g .test (cell-at e s)) (w .at-is) ∙ ap (g .test) (place-cell (g .slots) (g .clock) free done x xs (g .others) e (w .held)))
 
   next-is : (done : List Cell) (x : Cell) (xs : List Cell) (free : List ℕ) → SiftAt g e m done (x ∷ xs) free → next ≡ head xs
   next-is done x xs free w = next≡ ∙ ap (next-of e) (w .at-is) ∙ place-next (g .slots) (g .clock) free done x xs (g .others) e (w .held)
@@ -113,7 +115,8 @@ module _ (g : Sift) (e : List ℕ) (m : Cursor) (nz : m .at ≢ 0) (next : ℕ) 
       })
 
   -- The cell goes: its slot is the first free one, and what stands before it is linked to what follows.
-  drops : (e′ : List ℕ) (first prior : ℕ) (done : List Cell) (x : Cell) (xs : List Cell) (free : List ℕ) → SiftAt g e m done (x ∷ xs) free → g .test (cell-at e (m .at)) ≡ true
+  drops : (e′ : List ℕ) (first prior : ℕ) (done : List Cell) (x : Cell) (xs : List Cell) (free : List ℕ) → SiftAt g e m done (x ∷ xs) free
+      → g .test (cell-at e (m .at)) ≡ true
       → e′ ≡ linked-after done (head xs) (released e (x .slot)) → first ≡ head (done ++ xs) → prior ≡ last-slot done
       → Sifts g e m e′ (record { head = first; prior = prior; at = next; gone = m .gone + 1 })
   drops e′ first prior done x xs free w goes table≡ head≡ prior≡ =
@@ -122,7 +125,8 @@ module _ (g : Sift) (e : List ℕ) (m : Cursor) (nz : m .at ≢ 0) (next : ℕ) 
       let kept : reject (g .test) (x ∷ xs) ≡ reject (g .test) xs = select-false (λ y. not (g .test y)) x xs (ap not goes′) in
       stepped g e e′ m (record { head = first; prior = prior; at = next; gone = m .gone + 1 }) done done x xs free (x .slot ∷ free) w
       (record {
-        held = subst (Held (g .slots) (g .clock) (x .slot ∷ free) ((done ++ xs) ∷ g .others)) (sym table≡) (dropped (g .slots) (g .clock) free done x xs (g .others) e (w .held));
+        held = subst (Held (g .slots) (g .clock) (x .slot ∷ free) ((done ++ xs) ∷ g .others)) (sym table≡)
+            (dropped (g .slots) (g .clock) free done x xs (g .others) e (w .held));
         head-is = head≡;
         prior-is = prior≡;
         at-is = next-is done x xs free w;
@@ -134,15 +138,19 @@ module _ (g : Sift) (e : List ℕ) (m : Cursor) (nz : m .at ≢ 0) (next : ℕ) 
 
   -- Nothing stands before the cell: the chain's head moves.
   pub sift-drops-first : (e′ : List ℕ) → g .test (cell-at e (m .at)) ≡ true → m .prior ≡ 0 → e′ ≡ released e (m .at)
-      → (done left : List Cell) (free : List ℕ) → SiftAt g e m done left free → Sifts g e m e′ (record { head = next; prior = 0; at = next; gone = m .gone + 1 })
+      → (done left : List Cell) (free : List ℕ) → SiftAt g e m done left free
+      → Sifts g e m e′ (record { head = next; prior = 0; at = next; gone = m .gone + 1 })
   sift-drops-first e′ goes none table≡ done [] free w = absurd (nz (w .at-is))
   sift-drops-first e′ goes none table≡ (d ∷ ds) (x ∷ xs) free w =
-      absurd (last-zero (g .slots) e (x .slot) d ds (cut (g .slots) (g .clock) free (d ∷ ds) (x ∷ xs) (g .others) e (w .held) .start) (sym (w .prior-is) ∙ none))
-  sift-drops-first e′ goes none table≡ [] (x ∷ xs) free w = drops e′ next 0 [] x xs free w goes (table≡ ∙ ap (released e) (w .at-is)) (next-is [] x xs free w) refl
+      let before = cut (g .slots) (g .clock) free (d ∷ ds) (x ∷ xs) (g .others) e (w .held) .start in
+      absurd (last-zero (g .slots) e (x .slot) d ds before (sym (w .prior-is) ∙ none))
+  sift-drops-first e′ goes none table≡ [] (x ∷ xs) free w =
+      drops e′ next 0 [] x xs free w goes (table≡ ∙ ap (released e) (w .at-is)) (next-is [] x xs free w) refl
 
   -- A cell stands before it, and is linked to what follows.
   pub sift-drops-after : (e′ : List ℕ) → g .test (cell-at e (m .at)) ≡ true → m .prior ≢ 0 → e′ ≡ linked (released e (m .at)) (m .prior) next
-      → (done left : List Cell) (free : List ℕ) → SiftAt g e m done left free → Sifts g e m e′ (record { head = m .head; prior = m .prior; at = next; gone = m .gone + 1 })
+      → (done left : List Cell) (free : List ℕ) → SiftAt g e m done left free
+      → Sifts g e m e′ (record { head = m .head; prior = m .prior; at = next; gone = m .gone + 1 })
   sift-drops-after e′ goes some table≡ done [] free w = absurd (nz (w .at-is))
   sift-drops-after e′ goes some table≡ [] (x ∷ xs) free w = absurd (some (w .prior-is))
   sift-drops-after e′ goes some table≡ (d ∷ ds) (x ∷ xs) free w =

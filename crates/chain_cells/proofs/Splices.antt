@@ -41,7 +41,8 @@ module _ (g : Splice) (e : List ℕ) (m : Pair) (upper done left : List Cell) (w
   to-do-is : to-do e m ≡ length upper + length left
   to-do-is =
       let u : length (chain-from e (m .upper)) ≡ length upper =
-      ap (λ (s : ℕ). length (chain-from e s)) (w .upper-is) ∙ place-length (g .slots) (g .clock) (g .free) [] upper ((done ++ left) ∷ g .others) e upper-first in
+      ap (λ (s : ℕ). length (chain-from e s)) (w .upper-is)
+      ∙ place-length (g .slots) (g .clock) (g .free) [] upper ((done ++ left) ∷ g .others) e upper-first in
       let l : length (chain-from e (m .at)) ≡ length left =
       ap (λ (s : ℕ). length (chain-from e s)) (w .at-is) ∙ place-length (g .slots) (g .clock) (g .free) done left (upper ∷ g .others) e (w .held) in
       omega arith
@@ -73,7 +74,8 @@ pair-fits e m x =
 abbrev pub Splices : Splice → List ℕ → Pair → List ℕ → Pair → Type 0
 Splices g e m e′ m′ = Splicing g e′ m′ × (to-do e′ m′ < to-do e m)
 
-stepped : (g : Splice) (e e′ : List ℕ) (m m′ : Pair) (upper upper′ done done′ left left′ : List Cell) → SpliceAt g e m upper done left → SpliceAt g e′ m′ upper′ done′ left′
+stepped : (g : Splice) (e e′ : List ℕ) (m m′ : Pair) (upper upper′ done done′ left left′ : List Cell) → SpliceAt g e m upper done left
+    → SpliceAt g e′ m′ upper′ done′ left′
     → length upper′ + length left′ < length upper + length left → Splices g e m e′ m′
 stepped g e e′ m m′ upper upper′ done done′ left left′ w w′ less = (
   record { upper = upper′; done = done′; left = left′; here = w′ },
@@ -88,15 +90,17 @@ module _ (g : Splice) (e : List ℕ) (m : Pair) where
   -- The table's keys are those of the cells.
   upper-key : (x : Cell) (xs done left : List Cell) → SpliceAt g e m (x ∷ xs) done left → order-key e (m .upper) ≡ cell-key x
   upper-key x xs done left w =
+      let first = upper-first g e m (x ∷ xs) done left w in
       ap (order-key e) (w .upper-is)
-      ∙ ap (λ (c : Cell). cell-key c) (place-cell (g .slots) (g .clock) (g .free) [] x xs ((done ++ left) ∷ g .others) e (upper-first g e m (x ∷ xs) done left w))
+      ∙ ap (λ (c : Cell). cell-key c) (place-cell (g .slots) (g .clock) (g .free) [] x xs ((done ++ left) ∷ g .others) e first)
 
   lower-key : (upper done : List Cell) (y : Cell) (ys : List Cell) → SpliceAt g e m upper done (y ∷ ys) → order-key e (m .at) ≡ cell-key y
   lower-key upper done y ys w =
       ap (order-key e) (w .at-is) ∙ ap (λ (c : Cell). cell-key c) (place-cell (g .slots) (g .clock) (g .free) done y ys (upper ∷ g .others) e (w .held))
 
   -- So the merge takes the upper cell.
-  comes-first : (x : Cell) (xs done left : List Cell) → SpliceAt g e m (x ∷ xs) done left → Comes e m → merge cell-before (x ∷ xs) left ≡ x ∷ merge cell-before xs left
+  comes-first : (x : Cell) (xs done left : List Cell) → SpliceAt g e m (x ∷ xs) done left → Comes e m
+      → merge cell-before (x ∷ xs) left ≡ x ∷ merge cell-before xs left
   comes-first x xs done [] w k = merge-nothing (x ∷ xs) ∙ ap (_∷_ x) (sym (merge-nothing xs))
   comes-first x xs done (y ∷ ys) w (inl z) =
       absurd (omega (arith, w .at-is, cut (g .slots) (g .clock) (g .free) done (y ∷ ys) ((x ∷ xs) ∷ g .others) e (w .held) .each .1 .0 .0))
@@ -124,14 +128,16 @@ module _ (g : Splice) (e : List ℕ) (m : Pair) where
 
   module _ (e′ : List ℕ) (next : ℕ) (next≡ : next ≡ next-of e (m .upper)) (nz : m .upper ≢ 0) (comes : Comes e m) where
     -- The upper cell is placed: it is linked to the cursor's, and what stands before it to it.
-    places : (first : ℕ) (x : Cell) (xs done left : List Cell) → SpliceAt g e m (x ∷ xs) done left → e′ ≡ linked-after done (x .slot) (linked e (x .slot) (head left))
+    places : (first : ℕ) (x : Cell) (xs done left : List Cell) → SpliceAt g e m (x ∷ xs) done left
+        → e′ ≡ linked-after done (x .slot) (linked e (x .slot) (head left))
         → first ≡ head (done ++ x ∷ left) → Splices g e m e′ (record { upper = next; head = first; prior = m .upper; at = m .at })
     places first x xs done left w table≡ head≡ =
         let over : (zs : List Cell) → (done ++ x ∷ []) ++ zs ≡ done ++ x ∷ zs = append-assoc done (x ∷ []) in
         stepped g e e′ m (record { upper = next; head = first; prior = m .upper; at = m .at }) (x ∷ xs) xs done (done ++ x ∷ []) left left w
         (record {
           held = passed (g .slots) (g .clock) (g .free) done x left (xs ∷ g .others) e′
-              (subst (Held (g .slots) (g .clock) (g .free) ((done ++ x ∷ left) ∷ xs ∷ g .others)) (sym table≡) (moved (g .slots) (g .clock) (g .free) done left x xs (g .others) e (w .held)));
+              (subst (Held (g .slots) (g .clock) (g .free) ((done ++ x ∷ left) ∷ xs ∷ g .others)) (sym table≡)
+              (moved (g .slots) (g .clock) (g .free) done left x xs (g .others) e (w .held)));
           upper-is = next≡ ∙ ap (next-of e) (w .upper-is)
               ∙ place-next (g .slots) (g .clock) (g .free) [] x xs ((done ++ left) ∷ g .others) e (upper-first g e m (x ∷ xs) done left w);
           head-is = head≡ ∙ ap head (sym (over left));
@@ -146,18 +152,21 @@ module _ (g : Splice) (e : List ℕ) (m : Pair) where
         → Splices g e m e′ (record { upper = next; head = m .upper; prior = m .upper; at = m .at })
     splice-first none table≡ [] done left w = absurd (nz (w .upper-is))
     splice-first none table≡ (x ∷ xs) (d ∷ ds) left w =
-        absurd (last-zero (g .slots) e (head left) d ds (cut (g .slots) (g .clock) (g .free) (d ∷ ds) left ((x ∷ xs) ∷ g .others) e (w .held) .start) (sym (w .prior-is) ∙ none))
+        let before = cut (g .slots) (g .clock) (g .free) (d ∷ ds) left ((x ∷ xs) ∷ g .others) e (w .held) .start in
+        absurd (last-zero (g .slots) e (head left) d ds before (sym (w .prior-is) ∙ none))
     splice-first none table≡ (x ∷ xs) [] left w =
         places (m .upper) x xs [] left w (table≡ ∙ ap (λ (s : ℕ). linked e s (m .at)) (w .upper-is) ∙ ap (linked e (x .slot)) (w .at-is)) (w .upper-is)
 
     -- A cell stands before it, and is linked to it.
-    pub splice-after : m .prior ≢ 0 → e′ ≡ linked (linked e (m .upper) (m .at)) (m .prior) (m .upper) → (upper done left : List Cell) → SpliceAt g e m upper done left
+    pub splice-after : m .prior ≢ 0 → e′ ≡ linked (linked e (m .upper) (m .at)) (m .prior) (m .upper) → (upper done left : List Cell)
+        → SpliceAt g e m upper done left
         → Splices g e m e′ (record { upper = next; head = m .head; prior = m .upper; at = m .at })
     splice-after some table≡ [] done left w = absurd (nz (w .upper-is))
     splice-after some table≡ (x ∷ xs) [] left w = absurd (some (w .prior-is))
     splice-after some table≡ (x ∷ xs) (d ∷ ds) left w =
         places (m .head) x xs (d ∷ ds) left w
-        (table≡ ∙ ap (λ (s : ℕ). linked (linked e s (m .at)) (m .prior) s) (w .upper-is) ∙ ap (λ (s : ℕ). linked (linked e (x .slot) s) (m .prior) (x .slot)) (w .at-is)
+        (table≡ ∙ ap (λ (s : ℕ). linked (linked e s (m .at)) (m .prior) s) (w .upper-is)
+        ∙ ap (λ (s : ℕ). linked (linked e (x .slot) s) (m .prior) (x .slot)) (w .at-is)
         ∙ ap (λ (s : ℕ). linked (linked e (x .slot) (head left)) s (x .slot)) (w .prior-is))
         (w .head-is)
 
@@ -179,7 +188,8 @@ module _ (g : Chains) (e : List ℕ) where
   ends m (x ∷ xs) done left w z = absurd (omega (arith, w .upper-is, w .held .holds .each .1 .1 .0 .0))
   ends m [] done left w z =
       let whole : Held (g .slots) (g .clock) (g .free) ((done ++ left) ∷ g .others) e =
-      no-chain (g .slots) (g .clock) (g .free) ((done ++ left) ∷ g .others) e (swapped (g .slots) (g .clock) (g .free) (done ++ left) [] (g .others) e (w .held)) in
+      no-chain (g .slots) (g .clock) (g .free) ((done ++ left) ∷ g .others) e
+      (swapped (g .slots) (g .clock) (g .free) (done ++ left) [] (g .others) e (w .held)) in
       record {
         held = subst (λ (cs : List Cell). Held (g .slots) (g .clock) (g .free) (cs ∷ g .others) e) (w .merges) whole;
         head-is = w .head-is ∙ ap head (w .merges);

@@ -44,7 +44,8 @@ pub level-sum : (e l : List ℕ) (i : ℕ) (m : List ℕ) {m′ : List ℕ} {a :
 level-sum e l i m room w q =
     let ss = level-slots e l i in
     let fits = ap (λ (x : Marked Walked). x .answer .fits) (sym w) ∙ q in
-    passed-sum (slots-of e) m ss room (level-nonzero e l i) (and-right (level-sound e l i) (unmarked-each (slots-of e) m ss) (sym (level-means e l i m) ∙ fits)) (w ∙ level-passes e l i m fits)
+    let blank = and-right (level-sound e l i) (unmarked-each (slots-of e) m ss) (sym (level-means e l i m) ∙ fits) in
+    passed-sum (slots-of e) m ss room (level-nonzero e l i) blank (w ∙ level-passes e l i m fits)
 
 module _ {e l m₀ : List ℕ} {free : ℕ} where
   pub levels-start : Levels e l m₀ free m₀ free 0
@@ -83,7 +84,8 @@ deepest-owed l is d = ap (λ (x : Level). x .owed) is ∙ ap (λ (k : ℕ). leve
 
 -- The chains once the words beside them are right, after a walk along the free chain.
 module _ (e l m : List ℕ) (a : top-blank e ≡ true) (d : level-row l (settings-of l .deepest) .owed ≡ 0) where
-  module _ {first : ℕ} (is : first ≡ first-free e) {m1 : List ℕ} {f : Walked} (w : record { answer = f; marks = m1 } ≡ walked Free e 0 0 0 m (chain-from e first)) where
+  module _ {first : ℕ} (is : first ≡ first-free e) {m1 : List ℕ} {f : Walked}
+      (w : record { answer = f; marks = m1 } ≡ walked Free e 0 0 0 m (chain-from e first)) where
     free-walked : record { answer = f; marks = m1 } ≡ walked Free e 0 0 0 m (free-chain e)
     free-walked = rw is at w
 

@@ -51,16 +51,20 @@ module _ (e : List ℕ) (owed : ℕ) where
   unfolding rows-fit row-fits record-fits every ascend
   point-rows least [] = refl
   point-rows least (s ∷ ss) =
+      let rest = ascend e (order-key e s + 1) ss in
       rw (point-rows (order-key e s + 1) ss)
-      (rows-bool (is-point e s) (leb least (order-key e s)) (is-stamped e s) (owed-before e owed s) (every (is-point e) ss) (ascend e (order-key e s + 1) ss) (every (is-stamped e) ss) (every (owed-before e owed) ss))
+      (rows-bool (is-point e s) (leb least (order-key e s)) (is-stamped e s) (owed-before e owed s)
+      (every (is-point e) ss) rest (every (is-stamped e) ss) (every (owed-before e owed) ss))
 
   range-rows : (least : ℕ) (ss : List ℕ)
       → rows-fit Ranges e owed least ss ≡ (every (is-range e) ss && ascend e least ss) && (every (is-stamped e) ss && every (owed-before e owed) ss)
   unfolding rows-fit row-fits record-fits every ascend
   range-rows least [] = refl
   range-rows least (s ∷ ss) =
+      let rest = ascend e (order-key e s + 1) ss in
       rw (range-rows (order-key e s + 1) ss)
-      (rows-bool (is-range e s) (leb least (order-key e s)) (is-stamped e s) (owed-before e owed s) (every (is-range e) ss) (ascend e (order-key e s + 1) ss) (every (is-stamped e) ss) (every (owed-before e owed) ss))
+      (rows-bool (is-range e s) (leb least (order-key e s)) (is-stamped e s) (owed-before e owed s)
+      (every (is-range e) ss) rest (every (is-stamped e) ss) (every (owed-before e owed) ss))
 
 pub every-append : (t : ℕ → Bool) (xs ys : List ℕ) → every t (xs ++ ys) ≡ every t xs && every t ys
 unfolding every
@@ -97,7 +101,9 @@ module _ (e l : List ℕ) (i : ℕ) where
         every-append (is-stamped e) ps rs,
         every-append (owed-before e owed) ps rs,
       )
-      (level-bool (every (is-point e) ps && ascend e 0 ps) (every (is-range e) rs && ascend e 0 rs) (every (is-stamped e) ps) (every (owed-before e owed) ps) (every (is-stamped e) rs) (every (owed-before e owed) rs) (eqb (level-row l i .held) (length (ps ++ rs))) (leb owed (clock-of e)) (not (none (ps ++ rs)) || eqb owed 0))
+      (level-bool (every (is-point e) ps && ascend e 0 ps) (every (is-range e) rs && ascend e 0 rs)
+      (every (is-stamped e) ps) (every (owed-before e owed) ps) (every (is-stamped e) rs) (every (owed-before e owed) rs)
+      (eqb (level-row l i .held) (length (ps ++ rs))) (leb owed (clock-of e)) (not (none (ps ++ rs)) || eqb owed 0))
 
   tail-bool : (a p b q n : Bool) → (a && p) && ((b && q) && n) ≡ (a && (b && n)) && (p && q)
   tail-bool a p b q true = rw (right (b && q), right b) (and-swap a p b q)
@@ -117,6 +123,8 @@ module _ (e l : List ℕ) (i : ℕ) where
       let owed = level-row l i .owed in
       let ps = point-chain e l i in
       let rs = range-chain e l i in
+      let points-blank = unmarked-each (slots-of e) m ps in
+      let ranges-blank = unmarked-each (slots-of e) (mark-each m ps) rs in
       level-asks e l i m
       ∙ rw (
         walk-means Points e owed 0 0 m ps,
@@ -124,7 +132,7 @@ module _ (e l : List ℕ) (i : ℕ) where
         each-append (slots-of e) m ps rs,
         ← level-rows,
       )
-      (tail-bool (rows-fit Points e owed 0 ps) (unmarked-each (slots-of e) m ps) (rows-fit Ranges e owed 0 rs) (unmarked-each (slots-of e) (mark-each m ps) rs) (numbers-fit e l i (length (ps ++ rs))))
+      (tail-bool (rows-fit Points e owed 0 ps) points-blank (rows-fit Ranges e owed 0 rs) ranges-blank (numbers-fit e l i (length (ps ++ rs))))
 
 module _ (e l : List ℕ) where
   levels-means : (j i : ℕ) (m : List ℕ) (total : ℕ)
@@ -137,16 +145,22 @@ module _ (e l : List ℕ) where
       let here = level-slots e l i in
       let n = slots-of e in
       let last = eqb (total + length here + length rest) n in
+      let fits = leveled e l i m .answer .fits in
+      let sound = level-sound e l i in
+      let rest-sound = levels-sound e l j (suc i) in
+      let blank = unmarked-each n m here in
+      let rest-blank = unmarked-each n (mark-each m here) rest in
       let sum : total + length here + length rest ≡ total + length (here ++ rest) = omega (arith, length-append here rest) in
-      cond-and (λ (x : Marked Bool). x .answer) (leveled e l i m .answer .fits) _ _ refl
-      ∙ and-ap (leveled e l i m .answer .fits) {c = levels-sound e l j (suc i) && (unmarked-each n (mark-each m here) rest && last)} (λ t. rw (level-passes e l i m t) (levels-means j (suc i) (mark-each m here) (total + length here)))
+      cond-and (λ (x : Marked Bool). x .answer) fits _ _ refl
+      ∙ and-ap fits {c = rest-sound && (rest-blank && last)}
+      (λ t. rw (level-passes e l i m t) (levels-means j (suc i) (mark-each m here) (total + length here)))
       ∙ rw (level-means e l i m, each-append n m here rest, ← sum)
-      (and-swap (level-sound e l i) (unmarked-each n m here) (levels-sound e l j (suc i)) (unmarked-each n (mark-each m here) rest && last)
-      ∙ ap (λ (b : Bool). (level-sound e l i && levels-sound e l j (suc i)) && b) (sym (and-assoc (unmarked-each n m here) (unmarked-each n (mark-each m here) rest) last)))
+      (and-swap sound blank rest-sound (rest-blank && last) ∙ ap (λ (b : Bool). (sound && rest-sound) && b) (sym (and-assoc blank rest-blank last)))
 
   pub level-nonzero : (i : ℕ) → All (λ s. s ≢ 0) (level-slots e l i)
   level-nonzero i =
-      all-append (λ s. s ≢ 0) (point-chain e l i) (range-chain e l i) (chain-nonzero (length e) e (level-row l i .points)) (chain-nonzero (length e) e (level-row l i .ranges))
+      let row = level-row l i in
+      all-append (λ s. s ≢ 0) (point-chain e l i) (range-chain e l i) (chain-nonzero (length e) e (row .points)) (chain-nonzero (length e) e (row .ranges))
 
   records-nonzero : (j i : ℕ) → All (λ s. s ≢ 0) (record-slots e l j i)
   unfolding record-slots
@@ -188,15 +202,19 @@ chains-mean e l m h b =
     let records = record-slots e l (suc d) 0 in
     let last = eqb (length free + length records) n in
     let add : d + 1 ≡ suc d = omega arith in
-    let once : (unmarked-each n m free && unmarked-each n (mark-each m free) records) && last ≡ every-slot-once n (free ++ records) =
+    let free-blank = unmarked-each n m free in
+    let records-blank = unmarked-each n (mark-each m free) records in
+    let free-sound = every (is-free e) free in
+    let sound = levels-sound e l (suc d) 0 in
+    let once : (free-blank && records-blank) && last ≡ every-slot-once n (free ++ records) =
     ap (λ (t : Bool). t && last) (sym (each-append n m free records))
     ∙ ap (λ (k : ℕ). unmarked-each n m (free ++ records) && eqb k n) (sym (length-append free records))
     ∙ marks-mean-once n m (free ++ records) h b (slots-nonzero e l (suc d)) in
     let all : walked Free e 0 0 0 m free .answer .fits && levels-checked e l (d + 1) 0 (mark-each m free) (length free) .answer
-    ≡ (every (is-free e) free && levels-sound e l (suc d) 0) && every-slot-once n (free ++ records) =
+    ≡ (free-sound && sound) && every-slot-once n (free ++ records) =
     rw (add, walk-means Free e 0 0 0 m free, free-rows e 0 free, levels-means e l (suc d) 0 (mark-each m free) (length free), ← once)
-    (and-swap (every (is-free e) free) (unmarked-each n m free) (levels-sound e l (suc d) 0) (unmarked-each n (mark-each m free) records && last)
-    ∙ ap (λ (t : Bool). (every (is-free e) free && levels-sound e l (suc d) 0) && t) (sym (and-assoc (unmarked-each n m free) (unmarked-each n (mark-each m free) records) last))) in
+    (and-swap free-sound free-blank sound (records-blank && last)
+    ∙ ap (λ (t : Bool). (free-sound && sound) && t) (sym (and-assoc free-blank records-blank last))) in
     chains-ask e l m
     ∙ ap (λ (t : Bool). words-fit e l && t) all
-    ∙ chains-bool (top-blank e) (every (is-free e) free) (levels-sound e l (suc d) 0) (eqb (level-row l d .owed) 0) (every-slot-once n (free ++ records))
+    ∙ chains-bool (top-blank e) free-sound sound (eqb (level-row l d .owed) 0) (every-slot-once n (free ++ records))

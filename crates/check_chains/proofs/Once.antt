@@ -65,13 +65,15 @@ mark-once n m ss l b z q k =
     record {
       number = q;
       each = λ s y h.
-          let none : clear (mark-each m ss) s ≡ 0 = all-marked n (mark-each m ss) s (omega (arith, total-count n m ss l z k, unmarked-blank n m b)) (omega arith) h in
+          let all : unmarked n (mark-each m ss) ≡ 0 = omega (arith, total-count n m ss l z k, unmarked-blank n m b) in
+          let none : clear (mark-each m ss) s ≡ 0 = all-marked n (mark-each m ss) s all (omega arith) h in
           let was : clear m s ≡ 1 = rw (b s h) in
           omega (arith, slot-count n m ss s l h k);
     }
 
 -- What is counted at most once has no mark when its turn comes.
-count-unmarked : (n : ℕ) (m ss : List ℕ) → n < 8 * length m → All (λ s. s ≤ n) ss → ((s : ℕ) → s ≤ n → count (eqb s) ss ≤ clear m s) → unmarked-each n m ss ≡ true
+count-unmarked : (n : ℕ) (m ss : List ℕ) → n < 8 * length m → All (λ s. s ≤ n) ss → ((s : ℕ) → s ≤ n → count (eqb s) ss ≤ clear m s)
+    → unmarked-each n m ss ≡ true
 unfolding unmarked-each count
 count-unmarked n m [] l u f = refl
 count-unmarked n m (t ∷ ts) l u f =

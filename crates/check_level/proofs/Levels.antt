@@ -27,7 +27,8 @@ module _ (e l : List ℕ) (i : ℕ) (m : List ℕ) {row : Level} (is : row ≡ l
     unfolding leveled
     points-fail q = rw (sym points-walked, q)
 
-    module _ {m2 : List ℕ} {r : Walked} (w2 : record { answer = r; marks = m2 } ≡ walked Ranges e (row .owed) 0 0 m1 (chain-from e (row .ranges))) (t : p .fits ≡ true) where
+    module _ {m2 : List ℕ} {r : Walked}
+        (w2 : record { answer = r; marks = m2 } ≡ walked Ranges e (row .owed) 0 0 m1 (chain-from e (row .ranges))) (t : p .fits ≡ true) where
       ranges-walked : record { answer = r; marks = m2 } ≡ walked Ranges e (level-row l i .owed) 0 0 m1 (range-chain e l i)
       ranges-walked = rw is at w2
 

@@ -22,7 +22,8 @@ module _ (e l : List ℕ) where
   answer-2 a b = rw (a, b)
 
   -- The marks are k bytes of zeros.
-  module _ (k : ℕ) (room : slots-of e < 8 * k) (a : entries-fit e ≡ true) (b : levels-fit l ≡ true) {fits : Bool} {m : List ℕ} (w : record { answer = fits; marks = m } ≡ chains-checked e l (replicate k 0)) where
+  module _ (k : ℕ) (room : slots-of e < 8 * k) (a : entries-fit e ≡ true) (b : levels-fit l ≡ true) {fits : Bool} {m : List ℕ}
+      (w : record { answer = fits; marks = m } ≡ chains-checked e l (replicate k 0)) where
     said : chains-sound e l ≡ fits
     said =
         sym (chains-mean e l (replicate k 0) (rw length-replicate room) (λ s h. mark-blank k s (omega arith)))

@@ -33,9 +33,11 @@ pub each-append : (n : ℕ) (m xs ys : List ℕ) → unmarked-each n m (xs ++ ys
 unfolding mark-each unmarked-each
 each-append n m [] ys = refl
 each-append n m (s ∷ xs) ys =
+    let blank = eqb (mark-of m s) 0 in
+    let front = unmarked-each n (with-mark m s) xs in
+    let back = unmarked-each n (mark-each (with-mark m s) xs) ys in
     rw (each-append n (with-mark m s) xs ys)
-    (sym (ap (λ (b : Bool). leb s n && b) (and-assoc (eqb (mark-of m s) 0) (unmarked-each n (with-mark m s) xs) (unmarked-each n (mark-each (with-mark m s) xs) ys)))
-    ∙ sym (and-assoc (leb s n) (eqb (mark-of m s) 0 && unmarked-each n (with-mark m s) xs) (unmarked-each n (mark-each (with-mark m s) xs) ys)))
+    (sym (ap (λ (b : Bool). leb s n && b) (and-assoc blank front back)) ∙ sym (and-assoc (leb s n) (blank && front) back))
 
 -- What an accepted slot says.
 pub record Head (n : ℕ) (m : List ℕ) (t : ℕ) (ts : List ℕ) : Type 0 where

@@ -60,9 +60,13 @@ module _ (class : Class) (e : List ℕ) (owed : ℕ) where
   unfolding walked slot-fits rows-fit unmarked-each
   walk-means least count m [] = refl
   walk-means least count m (s ∷ ss) =
+      let inside = leb s (slots-of e) in
+      let blank = eqb (mark-of m s) 0 in
+      let fits = row-fits class e owed least s in
+      let rest-fit = rows-fit class e owed (order-key e s + 1) ss in
+      let rest-blank = unmarked-each (slots-of e) (with-mark m s) ss in
       walks-on least count m s ss
-      ∙ rw (walk-means (order-key e s + 1) (count + 1) (with-mark m s) ss)
-      (walk-bool (leb s (slots-of e)) (eqb (mark-of m s) 0) (row-fits class e owed least s) (rows-fit class e owed (order-key e s + 1) ss) (unmarked-each (slots-of e) (with-mark m s) ss))
+      ∙ rw (walk-means (order-key e s + 1) (count + 1) (with-mark m s) ss) (walk-bool inside blank fits rest-fit rest-blank)
 
   passes-from : (least count : ℕ) (m ss : List ℕ) → walked class e owed least count m ss .answer .fits ≡ true
       → walked class e owed least count m ss ≡ record { answer = record { fits = true; count = count + length ss }; marks = mark-each m ss }
@@ -84,4 +88,5 @@ module _ (class : Class) (e : List ℕ) (owed : ℕ) where
   walk-sum h m room w q =
       let ss = chain-from e h in
       let fits = ap (λ (x : Marked Walked). x .answer .fits) (sym w) ∙ q in
-      passed-sum (slots-of e) m ss room (chain-nonzero (length e) e h) (and-right (rows-fit class e owed 0 ss) (unmarked-each (slots-of e) m ss) (sym (walk-means 0 0 m ss) ∙ fits)) (w ∙ walk-passes m ss fits)
+      let blank = and-right (rows-fit class e owed 0 ss) (unmarked-each (slots-of e) m ss) (sym (walk-means 0 0 m ss) ∙ fits) in
+      passed-sum (slots-of e) m ss room (chain-nonzero (length e) e h) blank (w ∙ walk-passes m ss fits)

@@ -45,7 +45,12 @@ pub record Adds (p : State ℕ ℕ) (l : List ℕ) (levels held i : ℕ) : Type 
 
 module _ (p : State ℕ ℕ) (l : List ℕ) (r : RowsAre p l) where
   pub adds-nothing : Adds p l (settings-of l .deepest + 1) 0 0
-  adds-nothing = record { number = omega (arith, rows-deepest p l r, r .size); room = omega (arith, rows-deepest p l r, rows-length p l r); sum-is = omega arith }
+  adds-nothing =
+      record {
+        number = omega (arith, rows-deepest p l r, r .size);
+        room = omega (arith, rows-deepest p l r, rows-length p l r);
+        sum-is = omega arith;
+      }
 
   module _ (levels held i : ℕ) (a : Adds p l levels held i) where
     pub adds-one : i < levels → Adds p l levels (held + level-row l i .held) (i + 1)

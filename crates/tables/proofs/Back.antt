@@ -32,7 +32,8 @@ range-cell-slots (r ∷ rs) = ap (_∷_ (r .slot)) (range-cell-slots rs)
 level-chain-slots : (ls : List (Level ℕ ℕ)) → chain-slots (level-chains ls) ≡ levels-slots ls
 level-chain-slots [] = refl
 level-chain-slots (l ∷ ls) =
-    rw (point-cell-slots (l .points), range-cell-slots (l .ranges), level-chain-slots ls) (sym (append-assoc (point-slots (l .points)) (range-slots (l .ranges)) (levels-slots ls)))
+    rw (point-cell-slots (l .points), range-cell-slots (l .ranges), level-chain-slots ls)
+    (sym (append-assoc (point-slots (l .points)) (range-slots (l .ranges)) (levels-slots ls)))
 
 pub all-chain-slots : (p : State ℕ ℕ) → chain-slots (all-chains p) ≡ p .free ++ levels-slots (p .levels)
 all-chain-slots p = rw (free-slots-back (p .free), level-chain-slots (p .levels))
@@ -44,7 +45,8 @@ slots-inside n (c ∷ cs) a = (a .0 .0, a .0 .1, slots-inside n cs (a .1))
 
 all-slots-inside : (n : ℕ) (cs : List (List Cell)) → All (Inside n) (chain-slots cs) → AllSlots n cs
 all-slots-inside n [] a = tt
-all-slots-inside n (c ∷ cs) a = (slots-inside n c (all-left (Inside n) (cell-slots c) (chain-slots cs) a), all-slots-inside n cs (all-right (Inside n) (cell-slots c) (chain-slots cs) a))
+all-slots-inside n (c ∷ cs) a =
+    (slots-inside n c (all-left (Inside n) (cell-slots c) (chain-slots cs) a), all-slots-inside n cs (all-right (Inside n) (cell-slots c) (chain-slots cs) a))
 
 module _ (n : ℕ) (p : State ℕ ℕ) (f : Formed n p) where
   pub formed-once : OnceFacts n (chain-slots (all-chains p))
@@ -52,7 +54,9 @@ module _ (n : ℕ) (p : State ℕ ℕ) (f : Formed n p) where
 
   -- The words of a formed state hold its chains.
   pub formed-holds : Holds n (top-of p) (all-chains p) (entry-words n p)
-  formed-holds = words-hold n p (all-slots-inside n (all-chains p) (once-inside n (chain-slots (all-chains p)) formed-once)) (once-most n (chain-slots (all-chains p)) formed-once)
+  formed-holds =
+      let ss = chain-slots (all-chains p) in
+      words-hold n p (all-slots-inside n (all-chains p) (once-inside n ss formed-once)) (once-most n ss formed-once)
 
   -- And no other entry table does.
   pub formed-words : (e : List ℕ) → Holds n (top-of p) (all-chains p) e → e ≡ entry-words n p
@@ -72,7 +76,8 @@ short-all k (c ∷ cs) h = (
 
 -- Reading a level, and all levels, of a table that holds their chains.
 module _ (n : ℕ) (small : n < 65536) (clock : ℕ) (e l : List ℕ) where
-  level-back : (i : ℕ) (v : Level ℕ ℕ) → LevelFormed clock v → level-row l i ≡ row-of-level v → Chained n e (map point-cell (v .points)) → Chained n e (map range-cell (v .ranges))
+  level-back : (i : ℕ) (v : Level ℕ ℕ) → LevelFormed clock v → level-row l i ≡ row-of-level v → Chained n e (map point-cell (v .points))
+      → Chained n e (map range-cell (v .ranges))
       → length (map point-cell (v .points)) ≤ length e → length (map range-cell (v .ranges)) ≤ length e → read-level e l i ≡ v
   level-back i v f r cp cr lp lr =
       let ps : map (read-point e) (chain-from e (level-row l i .points)) ≡ v .points =
@@ -101,11 +106,13 @@ module _ (n : ℕ) (p : State ℕ ℕ) (f : Formed n p) where
       let small : n < 65536 = omega (arith, f .many) in
       let short : Short (length e) (all-chains p) = short-all (length e) (all-chains p) (omega (arith, formed-once n p f .number, h .room)) in
       let free≡ : chain-from e (first-free e) ≡ p .free =
-      ap (λ (r : Slot). chain-from e (r .link)) (h .first) ∙ chain-reads n (length e) e (map free-cell (p .free)) small (h .each .0) (short .0) ∙ free-slots-back (p .free) in
+      ap (λ (r : Slot). chain-from e (r .link)) (h .first)
+      ∙ chain-reads n (length e) e (map free-cell (p .free)) small (h .each .0) (short .0) ∙ free-slots-back (p .free) in
       let clock≡ : clock-of e ≡ p .clock = ap (λ (r : Slot). r .span) (h .first) in
       let levels≡ : read-levels e (level-words p) (suc (settings-of (level-words p) .deepest)) 0 ≡ p .levels =
       ap (λ k. read-levels e (level-words p) k 0) (ap (λ (s : Settings). suc (s .deepest)) (settings-back p) ∙ sym (f .size))
-      ∙ levels-back n small (p .clock) e (level-words p) (p .levels) 0 (λ m b. ap (level-row (level-words p)) (omega arith) ∙ level-row-at p m b) (f .levels-ok) (h .each .1) (short .1) in
+      ∙ levels-back n small (p .clock) e (level-words p) (p .levels) 0
+      (λ m b. ap (level-row (level-words p)) (omega arith) ∙ level-row-at p m b) (f .levels-ok) (h .each .1) (short .1) in
       rw (levels≡, settings-back p, free≡, clock≡)
 
   -- "Reading what was written gives the state back".

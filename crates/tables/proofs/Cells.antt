@@ -57,7 +57,8 @@ chain-slot n e f (k ∷ cs) s h c d = go (λ m. chain-slot n e f cs s m (c .3) (
     go ih (yes q) = rw q (c .2 ∙ sym (d .2))
     go ih (no q) = ih (omega (arith, times-other s (k .slot) (cell-slots cs) q))
 
-chains-slot : (n : ℕ) (e f : List ℕ) (cs : List (List Cell)) (s : ℕ) → 0 < times s (chain-slots cs) → AllChained n e cs → AllChained n f cs → slot-at e s ≡ slot-at f s
+chains-slot : (n : ℕ) (e f : List ℕ) (cs : List (List Cell)) (s : ℕ) → 0 < times s (chain-slots cs) → AllChained n e cs → AllChained n f cs
+    → slot-at e s ≡ slot-at f s
 unfolding count
 chains-slot n e f [] s h c d = absurd (omega arith)
 chains-slot n e f (k ∷ cs) s h c d = go (λ m. chains-slot n e f cs s m (c .1) (d .1)) (decLt 0 (times s (cell-slots k)))

@@ -60,7 +60,8 @@ module _ {S : Type 0} where
       (λ k. go (omega (arith, f .0)) (f .1 (omega (arith, f .0))) (ℕ-discrete (p .hi) (q .hi)))
     where
       go : p .lo ≡ q .lo → q .hi ≤ p .hi → Dec (p .hi ≡ q .hi) → q .hi < p .hi
-      go e le (yes x) = absurd (true≢false (sym (and-intro (eqb (p .lo) (q .lo)) (eqb (p .hi) (q .hi)) (eq-eqb (p .lo) (q .lo) e) (eq-eqb (p .hi) (q .hi) x)) ∙ n))
+      go e le (yes x) =
+          absurd (true≢false (sym (and-intro (eqb (p .lo) (q .lo)) (eqb (p .hi) (q .hi)) (eq-eqb (p .lo) (q .lo) e) (eq-eqb (p .hi) (q .hi) x)) ∙ n))
       go e le (no x) = omega arith
 
   -- A range beside those below it: its own lo and hi, and a stamp that is no earlier.
@@ -103,7 +104,8 @@ module _ {S : Type 0} where
         rw (b .lo-same, b .hi-same, c .lo-same, c .hi-same)
 
 earlier-most : (a b t : ℕ) → a ≤ t → b ≤ t → earlier a b ≤ t
-earlier-most a b t p q = cond-elim (λ x. x ≤ t) (eqb a 0) b (cond (eqb b 0) a (min a b)) (λ e. q) (λ e. cond-elim (λ x. x ≤ t) (eqb b 0) a (min a b) (λ g. p) (λ g. omega arith))
+earlier-most a b t p q =
+    cond-elim (λ x. x ≤ t) (eqb a 0) b (cond (eqb b 0) a (min a b)) (λ e. q) (λ e. cond-elim (λ x. x ≤ t) (eqb b 0) a (min a b) (λ g. p) (λ g. omega arith))
 
 never-any : {X : Type 0} (f : X → Bool) (xs : List X) → length xs ≡ 0 → any f xs ≡ false
 unfolding any
@@ -133,7 +135,8 @@ module _ {S A : Type 0} (t : ℕ) (u l : Level S A) (f : LevelFormed t u) (g : L
   unfolding merged
   merged-ranges-ascend =
       merge-ascending range-before range-trans (map (later (l .ranges)) (u .ranges)) (reject (range-goes (u .ranges)) (l .ranges))
-      (map-ascending (later (l .ranges)) range-before range-before (λ p q. sym (later-before t (l .ranges) (g .range-stamps) p q)) (u .ranges) (f .ranges-ascend))
+      (map-ascending (later (l .ranges)) range-before range-before
+      (λ p q. sym (later-before t (l .ranges) (g .range-stamps) p q)) (u .ranges) (f .ranges-ascend))
       (select-ascending range-before _ (l .ranges) (g .ranges-ascend))
       (ranges-apart t (l .ranges) (g .range-stamps) (u .ranges) (reject (range-goes (u .ranges)) (l .ranges)) (staying-others (u .ranges) (l .ranges)))
 
@@ -286,11 +289,16 @@ module _ {S A : Type 0} (t : ℕ) (l : Level S A) (f : LevelFormed t l) (z : l .
     spans = f .spans;
     ranges-ascend = f .ranges-ascend;
     point-stamps = all-map (overwrite k a t) (λ p. (1 ≤ p .stamp) × (p .stamp ≤ t)) (l .points)
-        (all-weaken _ _ (λ p h. cond-elim (λ (q : Point S A). (1 ≤ q .stamp) × (q .stamp ≤ t)) (eqb (p .key) k) _ p (λ e. (low, omega arith)) (λ e. h)) (l .points) (f .point-stamps));
+        (all-weaken _ _
+        (λ p h. cond-elim (λ (q : Point S A). (1 ≤ q .stamp) × (q .stamp ≤ t)) (eqb (p .key) k) _ p (λ e. (low, omega arith)) (λ e. h))
+        (l .points) (f .point-stamps));
     range-stamps = f .range-stamps;
     owed-clock = f .owed-clock;
     owed-points = all-map (overwrite k a t) (λ p. is-put (p .entry) ≡ false → (1 ≤ l .owed) × (l .owed ≤ p .stamp)) (l .points)
-        (all-weaken _ _ (λ p h. cond-elim (λ (q : Point S A). is-put (q .entry) ≡ false → (1 ≤ l .owed) × (l .owed ≤ q .stamp)) (eqb (p .key) k) _ p (λ e n. absurd (true≢false n)) (λ e. h)) (l .points) (f .owed-points));
+        (all-weaken _ _
+        (λ p h. cond-elim (λ (q : Point S A). is-put (q .entry) ≡ false → (1 ≤ l .owed) × (l .owed ≤ q .stamp)) (eqb (p .key) k) _ p
+        (λ e n. absurd (true≢false n)) (λ e. h))
+        (l .points) (f .owed-points));
     owed-ranges = f .owed-ranges;
     owed-empty = λ h. z;
   }

@@ -14,11 +14,11 @@ use Rattle.lists.proofs.Tests.{length-of-none, all-every-true, all-append, all-
 use Rattle.model.specs.Records.{Entry, value, tombstone, Point, Range, Level, State, empty, is-put, held}
 use Rattle.model.specs.Merge.{point-slots, range-slots}
 use Rattle.tables.proofs.Linked.{top-written, top-form}
-use Rattle.tables.specs.Slots.{entry-length, slots-of, Slot, first-free, clock-of}
+use Rattle.tables.specs.Slots.{slot-at, entry-length, slots-of, Slot, first-free, clock-of}
 use Rattle.tables.specs.Rows.{level-length, settings-of, Row, level-row}
 use Rattle.tables.specs.Words.{Fits32}
 use Rattle.tables.specs.Sound.{free-chain, point-chain, range-chain, is-free, level-sound, levels-sound, record-slots, chains-sound, entries-fit, levels-fit, table-refusal}
-use Rattle.tables.specs.Placed.{free-cell, entry-kind, point-cell, range-cell, level-chains, all-chains, row-of-level, entry-words, level-words, read-level, read-state, top-of}
+use Rattle.tables.specs.Placed.{cell-slot, free-cell, entry-kind, point-cell, range-cell, level-chains, all-chains, row-of-level, entry-words, level-words, read-level, read-state, top-of}
 use Rattle.tables.specs.Formed.{LevelFormed, levels-slots, Formed}
 use Rattle.tables.proofs.Cells.{Chained, AllChained, cell-slots, Holds}
 use Rattle.tables.proofs.Once.{once-facts, facts-once}
@@ -33,7 +33,9 @@ use Rattle.tables.proofs.WordsSound.{chained-all, free-form, point-form
 levels-all : (e l : List ℕ) (j i : ℕ) → ((m : ℕ) → i ≤ m → m < i + j → LevelSound e l m) → levels-sound e l j i ≡ true
 unfolding levels-sound
 levels-all e l zero i h = refl
-levels-all e l (suc j) i h = and-intro (level-sound e l i) (levels-sound e l j (suc i)) (facts-level e l i (h i (omega arith) (omega arith))) (levels-all e l j (suc i) (λ m a b. h m (omega arith) (omega arith)))
+levels-all e l (suc j) i h =
+    and-intro (level-sound e l i) (levels-sound e l j (suc i)) (facts-level e l i (h i (omega arith) (omega arith)))
+    (levels-all e l j (suc i) (λ m a b. h m (omega arith) (omega arith)))
 
 pub facts-sound : (e l : List ℕ) → Sound e l → table-refusal e l ≡ 0
 unfolding table-refusal entries-fit levels-fit chains-sound
@@ -54,7 +56,8 @@ facts-sound e l f =
     )
 
 -- The chains of level i.
-chained-at : (n : ℕ) (e : List ℕ) (ls : List (Level ℕ ℕ)) (i : ℕ) → AllChained n e (level-chains ls) → (Chained n e (map point-cell (getD ls i empty .points))) × (Chained n e (map range-cell (getD ls i empty .ranges)))
+chained-at : (n : ℕ) (e : List ℕ) (ls : List (Level ℕ ℕ)) (i : ℕ) → AllChained n e (level-chains ls)
+    → (Chained n e (map point-cell (getD ls i empty .points))) × (Chained n e (map range-cell (getD ls i empty .ranges)))
 chained-at n e [] i c = (tt, tt)
 chained-at n e (l ∷ ls) zero c = (c .0, c .1 .0)
 chained-at n e (l ∷ ls) (suc i) c = chained-at n e ls i (c .1 .1)
@@ -120,28 +123,47 @@ module _ (n : ℕ) (p : State ℕ ℕ) (f : Formed n p) (e : List ℕ) (h : Hold
     g = formed-at (p .clock) (p .levels) i in-range (f .levels-ok)
 
     lengths : length (cell-slots (map point-cell (v .points)) ++ cell-slots (map range-cell (v .ranges))) ≡ held v
-    lengths = rw (point-cell-slots (v .points), range-cell-slots (v .ranges))
-        (omega (arith, length-append (point-slots (v .points)) (range-slots (v .ranges)), length-map (v .points) (λ (q : Point ℕ ℕ). q .slot), length-map (v .ranges) (λ (r : Range ℕ). r .slot)))
+    lengths =
+        let points = length-map (v .points) (λ (q : Point ℕ ℕ). q .slot) in
+        let ranges = length-map (v .ranges) (λ (r : Range ℕ). r .slot) in
+        rw (point-cell-slots (v .points), range-cell-slots (v .ranges))
+        (omega (arith, length-append (point-slots (v .points)) (range-slots (v .ranges)), points, ranges))
 
     put-one : (x : Entry ℕ) → eqb (entry-kind x) 1 ≡ false → is-put x ≡ false
     put-one (value a) q = q
     put-one tombstone q = refl
 
+    -- What holds of the row of every point, or of every range, holds along its chain.
+    along-points : (P : ℕ → Type 0) (Q : Point ℕ ℕ → Type 0)
+        → ((q : Point ℕ ℕ) (next : ℕ) → next ≤ n → Q q → slot-at e (q .slot) ≡ cell-slot next (point-cell q) → P (q .slot))
+        → All Q (v .points) → All P (cell-slots (map point-cell (v .points)))
+    along-points P Q each all = chained-all n e small point-cell P Q each (v .points) all cp
+
+    along-ranges : (P : ℕ → Type 0) (Q : Range ℕ → Type 0)
+        → ((r : Range ℕ) (next : ℕ) → next ≤ n → Q r → slot-at e (r .slot) ≡ cell-slot next (range-cell r) → P (r .slot))
+        → All Q (v .ranges) → All P (cell-slots (map range-cell (v .ranges)))
+    along-ranges P Q each all = chained-all n e small range-cell P Q each (v .ranges) all cr
+
     pub level-is-sound : LevelSound e (level-words p) i
     level-is-sound = record {
-      point-forms = rw points≡ (chained-all n e small point-cell _ (λ q. q .key ≤ 65535) (λ q k l m r. point-form n e small q k l m r) (v .points) (g .keys) cp);
+      point-forms = rw points≡ (along-points _ (λ q. q .key ≤ 65535) (λ q k l m r. point-form n e small q k l m r) (g .keys));
       point-order = rw points≡ (points-order n e small (v .points) 0 (g .keys) (g .points-ascend) (all-every _ (λ q. omega arith) (v .points)) cp);
-      range-forms = rw ranges≡ (chained-all n e small range-cell _ (λ r. (r .lo ≤ r .hi) × (r .hi ≤ 65535)) (λ q k l m r. range-form n e small q k l m r) (v .ranges) (g .spans) cr);
+      range-forms = rw ranges≡ (along-ranges _ (λ r. (r .lo ≤ r .hi) × (r .hi ≤ 65535)) (λ q k l m r. range-form n e small q k l m r) (g .spans));
       range-order = rw ranges≡ (ranges-order n e small (v .ranges) 0 (g .spans) (g .ranges-ascend) (all-every _ (λ r. omega arith) (v .ranges)) cr);
       stamps = rw (points≡, ranges≡) (all-append _ (cell-slots (map point-cell (v .points))) (cell-slots (map range-cell (v .ranges)))
-          (chained-all n e small point-cell _ (λ q. (1 ≤ q .stamp) × (q .stamp ≤ p .clock)) (λ q k l m r. stamp-form n e small (point-cell q) k l (m .0, rw clock≡ (m .1)) r) (v .points) (g .point-stamps) cp)
-          (chained-all n e small range-cell _ (λ q. (1 ≤ q .stamp) × (q .stamp ≤ p .clock)) (λ q k l m r. stamp-form n e small (range-cell q) k l (m .0, rw clock≡ (m .1)) r) (v .ranges) (g .range-stamps) cr));
+          (along-points _ (λ q. (1 ≤ q .stamp) × (q .stamp ≤ p .clock))
+          (λ q k l m r. stamp-form n e small (point-cell q) k l (m .0, rw clock≡ (m .1)) r) (g .point-stamps))
+          (along-ranges _ (λ q. (1 ≤ q .stamp) × (q .stamp ≤ p .clock))
+          (λ q k l m r. stamp-form n e small (range-cell q) k l (m .0, rw clock≡ (m .1)) r) (g .range-stamps)));
       owes = rw (points≡, ranges≡, owed≡) (all-append _ (cell-slots (map point-cell (v .points))) (cell-slots (map range-cell (v .ranges)))
-          (chained-all n e small point-cell _ (λ q. is-put (q .entry) ≡ false → (1 ≤ v .owed) × (v .owed ≤ q .stamp)) (λ q k l m r. owed-form n e small (point-cell q) (v .owed) k l (λ z. m (put-one (q .entry) z)) r) (v .points) (g .owed-points) cp)
-          (chained-all n e small range-cell _ (λ q. (1 ≤ v .owed) × (v .owed ≤ q .stamp)) (λ q k l m r. owed-form n e small (range-cell q) (v .owed) k l (λ z. m) r) (v .ranges) (g .owed-ranges) cr));
+          (along-points _ (λ q. is-put (q .entry) ≡ false → (1 ≤ v .owed) × (v .owed ≤ q .stamp))
+          (λ q k l m r. owed-form n e small (point-cell q) (v .owed) k l (λ z. m (put-one (q .entry) z)) r) (g .owed-points))
+          (along-ranges _ (λ q. (1 ≤ v .owed) × (v .owed ≤ q .stamp))
+          (λ q k l m r. owed-form n e small (range-cell q) (v .owed) k l (λ z. m) r) (g .owed-ranges)));
       number = number≡ ∙ sym lengths ∙ rw (points≡, ranges≡);
       owed-clock = rw (owed≡, clock≡) (g .owed-clock);
-      owed-empty = rw (points≡, ranges≡, owed≡) (λ q. g .owed-empty (sym lengths ∙ length-of-none (cell-slots (map point-cell (v .points)) ++ cell-slots (map range-cell (v .ranges))) q));
+      owed-empty = rw (points≡, ranges≡, owed≡)
+          (λ q. g .owed-empty (sym lengths ∙ length-of-none (cell-slots (map point-cell (v .points)) ++ cell-slots (map range-cell (v .ranges))) q));
     }
 
   slots≡ : slots-of e ≡ n
@@ -165,7 +187,8 @@ module _ (n : ℕ) (p : State ℕ ℕ) (f : Formed n p) (e : List ℕ) (h : Hold
     free-forms = rw (free≡ ∙ sym (free-slots-back (p .free)))
         (chained-all n e small free-cell _ (λ s. Unit {0}) (λ s k l m r. free-form n e small s k l r) (p .free) (all-every _ (λ s. tt) (p .free)) (h .each .0));
     levels = λ i b. level-is-sound i (rw deepest≡ at b);
-    deepest-owes-nothing = ap (λ k. level-row words k .owed) deepest≡ ∙ ap (λ (r : Row). r .owed) (level-row-at p (p .settings .deepest) (omega (arith, f .size))) ∙ f .deepest-owes-nothing;
+    deepest-owes-nothing = ap (λ k. level-row words k .owed) deepest≡
+        ∙ ap (λ (r : Row). r .owed) (level-row-at p (p .settings .deepest) (omega (arith, f .size))) ∙ f .deepest-owes-nothing;
     once = rw (slots≡, free≡, records≡) (once-facts n (p .free ++ levels-slots (p .levels)) (f .slots-once));
   }
 
@@ -180,7 +203,9 @@ pub record WordsOf (e l : List ℕ) (p : State ℕ ℕ) : Type 0 where
   pub levels : l ≡ level-words p
 
 pub sound-words : (e l : List ℕ) → Fits32 e → table-refusal e l ≡ 0 → WordsOf e l (read-state e l)
-sound-words e l w h = record { formed = sound-formed e l w (sound-facts e l h); entries = sound-entries e l w (sound-facts e l h); levels = sound-levels e l w (sound-facts e l h) }
+sound-words e l w h =
+    let f = sound-facts e l h in
+    record { formed = sound-formed e l w f; entries = sound-entries e l w f; levels = sound-levels e l w f }
 
 -- Two pairs of sound tables of the same length that read as the same state are equal word for word.
 pub same-state-same-words : (e l e′ l′ : List ℕ) → Fits32 e → Fits32 e′ → table-refusal e l ≡ 0 → table-refusal e′ l′ ≡ 0 → slots-of e ≡ slots-of e′
@@ -188,4 +213,5 @@ pub same-state-same-words : (e l e′ l′ : List ℕ) → Fits32 e → Fits32 e
 same-state-same-words e l e′ l′ w w′ h h′ n p =
     let a = sound-words e l w h in
     let b = sound-words e′ l′ w′ h′ in
-    (a .entries ∙ ap (λ k. entry-words k (read-state e l)) n ∙ ap (entry-words (slots-of e′)) p ∙ sym (b .entries), a .levels ∙ ap level-words p ∙ sym (b .levels))
+    let entries = a .entries ∙ ap (λ k. entry-words k (read-state e l)) n ∙ ap (entry-words (slots-of e′)) p ∙ sym (b .entries) in
+    (entries, a .levels ∙ ap level-words p ∙ sym (b .levels))

@@ -112,18 +112,21 @@ module _ (t : ℕ) (p₀ : State ℕ ℕ) where
       levels-ok = all-set (LevelFormed t) (p .levels) 0 (merged (single x t w) (level 0 p)) (a .levels-ok)
           (merged-formed t (single x t w) (level 0 p) (single-formed t low x w ok) (level-at 0 p a));
       owes-nothing =
-          ap (λ (y : Level ℕ ℕ). y .owed) (getD-set-other (p .levels) 0 (p .settings .deepest) (merged (single x t w) (level 0 p)) empty (omega (arith, deep-at p a)))
+          ap (λ (y : Level ℕ ℕ). y .owed)
+          (getD-set-other (p .levels) 0 (p .settings .deepest) (merged (single x t w) (level 0 p)) empty (omega (arith, deep-at p a)))
           ∙ a .owes-nothing;
       slots = λ g. same g ∙ a .slots g;
     }
 
-    pub entered-at : (w : Write ℕ) (p : State ℕ ℕ) → bad-docket (written w) ≡ false → none (release (displaced t w p) (p .free)) ≡ false → At t p₀ p → At t p₀ (enter t w p)
+    pub entered-at : (w : Write ℕ) (p : State ℕ ℕ) → bad-docket (written w) ≡ false → none (release (displaced t w p) (p .free)) ≡ false → At t p₀ p
+        → At t p₀ (enter t w p)
     unfolding enter
     entered-at w p ok room a = enter-at-at w p (release (displaced t w p) (p .free)) ok (λ g. enter-weight g t w p (omega (arith, a .size)) room) a
 
     set-points-at : (ps : List (Point ℕ ℕ)) (p : State ℕ ℕ) (free : List ℕ)
         → LevelFormed t (record { points = ps; ranges = level (p .settings .deepest) p .ranges; owed = level (p .settings .deepest) p .owed })
-        → ((g : ℕ → ℕ) → weight g (set-points (p .settings .deepest) ps p free) ≡ weight g p) → At t p₀ p → At t p₀ (set-points (p .settings .deepest) ps p free)
+        → ((g : ℕ → ℕ) → weight g (set-points (p .settings .deepest) ps p free) ≡ weight g p) → At t p₀ p
+        → At t p₀ (set-points (p .settings .deepest) ps p free)
     unfolding set-points
     set-points-at ps p free f same a = record {
       settings-ok = a .settings-ok;
@@ -144,10 +147,12 @@ module _ (t : ℕ) (p₀ : State ℕ ℕ) where
         (written-formed t (level (p .settings .deepest) p) (level-at (p .settings .deepest) p a) (a .owes-nothing) low k v)
         (λ g. act-weight g t (put k v) p (omega (arith, a .size))) a
     acted-at (delete k) p a =
-        set-points-at _ p _ (fewer-formed t (level (p .settings .deepest) p) (level-at (p .settings .deepest) p a) (a .owes-nothing) (point-goes (unplaced t (delete k))))
+        let deepest = p .settings .deepest in
+        set-points-at _ p _ (fewer-formed t (level deepest p) (level-at deepest p a) (a .owes-nothing) (point-goes (unplaced t (delete k))))
         (λ g. act-weight g t (delete k) p (omega (arith, a .size))) a
     acted-at (delete-range lo hi) p a =
-        set-points-at _ p _ (fewer-formed t (level (p .settings .deepest) p) (level-at (p .settings .deepest) p a) (a .owes-nothing) (point-goes (unplaced t (delete-range lo hi))))
+        let deepest = p .settings .deepest in
+        set-points-at _ p _ (fewer-formed t (level deepest p) (level-at deepest p a) (a .owes-nothing) (point-goes (unplaced t (delete-range lo hi))))
         (λ g. act-weight g t (delete-range lo hi) p (omega (arith, a .size))) a
 
 pub at-kept : (p₀ : State ℕ ℕ) (c : Call ℕ) → 1 ≤ c .clock → bad-docket (c .op) ≡ false → Kept (At (c .clock) p₀) c
@@ -200,10 +205,13 @@ merge-clock i p = refl
 
 -- At a later clock it is formed as well.
 pub timed-formed : (n t : ℕ) (p : State ℕ ℕ) → p .clock ≤ t → Formed n p → Formed n (timed t p)
-timed-formed n t p h f = at-formed n t p (timed t p) f (record { settings-ok = a .settings-ok; size = a .size; levels-ok = a .levels-ok; owes-nothing = a .owes-nothing; slots = a .slots }) refl
+timed-formed n t p h f = at-formed n t p (timed t p) f later refl
   where
     a : At t p p
     a = formed-at n t p h f
+
+    later : At t p (timed t p)
+    later = record { settings-ok = a .settings-ok; size = a .size; levels-ok = a .levels-ok; owes-nothing = a .owes-nothing; slots = a .slots }
 
 -- Merged into level L, at the clock that it had.
 pub merge-all-formed : (n : ℕ) (p : State ℕ ℕ) → Formed n p → Formed n (merge-all p .state)

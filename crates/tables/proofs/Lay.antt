@@ -46,7 +46,8 @@ lay-chained n e (c ∷ cs) l b h =
     tail s (no q) = omega (arith, h s, times-other s (c .slot) (cell-slots cs) q)
 
 -- Chains that share no slot with it stay.
-lay-off : (n : ℕ) (e : List ℕ) (cs : List Cell) (ds : List (List Cell)) → ((s : ℕ) → times s (cell-slots cs) + times s (chain-slots ds) ≤ 1) → AllChained n e ds → AllChained n (lay e cs) ds
+lay-off : (n : ℕ) (e : List ℕ) (cs : List Cell) (ds : List (List Cell)) → ((s : ℕ) → times s (cell-slots cs) + times s (chain-slots ds) ≤ 1)
+    → AllChained n e ds → AllChained n (lay e cs) ds
 unfolding lay
 lay-off n e [] ds h a = a
 lay-off n e (c ∷ cs) ds h a =
@@ -57,7 +58,8 @@ lay-off n e (c ∷ cs) ds h a =
     less s (yes q) = omega (arith, h s, ap (λ t. times s (t ∷ cell-slots cs)) (sym q), times-head s (cell-slots cs))
     less s (no q) = omega (arith, h s, times-other s (c .slot) (cell-slots cs) q)
 
-lay-all-chained : (n : ℕ) (e : List ℕ) (cs : List (List Cell)) → length e ≡ entry-length n → AllSlots n cs → ((s : ℕ) → times s (chain-slots cs) ≤ 1) → AllChained n (lay-all e cs) cs
+lay-all-chained : (n : ℕ) (e : List ℕ) (cs : List (List Cell)) → length e ≡ entry-length n → AllSlots n cs → ((s : ℕ) → times s (chain-slots cs) ≤ 1)
+    → AllChained n (lay-all e cs) cs
 unfolding lay-all
 lay-all-chained n e [] l b h = tt
 lay-all-chained n e (c ∷ cs) l b h =
@@ -77,7 +79,8 @@ unfolding count
 no-zeros n [] b = refl
 no-zeros n (c ∷ cs) b = omega (arith, times-append 0 (cell-slots c) (chain-slots cs), no-zero n c (b .0), no-zeros n cs (b .1))
 
-pub words-hold : (n : ℕ) (p : State ℕ ℕ) → AllSlots n (all-chains p) → ((s : ℕ) → times s (chain-slots (all-chains p)) ≤ 1) → Holds n (top-of p) (all-chains p) (entry-words n p)
+pub words-hold : (n : ℕ) (p : State ℕ ℕ) → AllSlots n (all-chains p) → ((s : ℕ) → times s (chain-slots (all-chains p)) ≤ 1)
+    → Holds n (top-of p) (all-chains p) (entry-words n p)
 unfolding entry-words
 words-hold n p b h =
     let zeros : List ℕ = replicate (entry-length n) 0 in

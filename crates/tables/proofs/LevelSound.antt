@@ -61,6 +61,7 @@ module _ (e l : List ℕ) (i : ℕ) where
       let h4 = and-left (a1 && a2 && (a3 && a4)) a5 h5 in
       let h2 = and-left (a1 && a2) (a3 && a4) h4 in
       let h34 = and-right (a1 && a2) (a3 && a4) h4 in
+      let h9 = and-right (a1 && a2 && (a3 && a4) && a5 && a6 && a7 && a8) a9 h in
       record {
         point-forms = every-all (is-point e) points (and-left a1 a2 h2);
         point-order = and-right a1 a2 h2;
@@ -70,7 +71,7 @@ module _ (e l : List ℕ) (i : ℕ) where
         owes = every-all (owed-before e owed) (points ++ ranges) (and-right (a1 && a2 && (a3 && a4) && a5) a6 h6);
         number = eqb-true (level-row l i .held) (length (points ++ ranges)) (and-right (a1 && a2 && (a3 && a4) && a5 && a6) a7 h7);
         owed-clock = leb-true owed (clock-of e) (and-right (a1 && a2 && (a3 && a4) && a5 && a6 && a7) a8 h8);
-        owed-empty = λ n. eqb-true owed 0 (or-second (not (none (points ++ ranges))) (eqb owed 0) (and-right (a1 && a2 && (a3 && a4) && a5 && a6 && a7 && a8) a9 h) (ap not n));
+        owed-empty = λ n. eqb-true owed 0 (or-second (not (none (points ++ ranges))) (eqb owed 0) h9 (ap not n));
       }
 
   pub facts-level : LevelSound → level-sound e l i ≡ true
@@ -86,7 +87,9 @@ module _ (e l : List ℕ) (i : ℕ) where
         eq-eqb (level-row l i .held) (length (points ++ ranges)) (f .number),
         le-leb owed (clock-of e) (f .owed-clock),
       )
-      (by-cases (none (points ++ ranges)) (λ n. or-right (not (none (points ++ ranges))) (eqb owed 0) (eq-eqb owed 0 (f .owed-empty n))) (λ n. or-left (not (none (points ++ ranges))) (eqb owed 0) (ap not n)))
+      (by-cases (none (points ++ ranges))
+      (λ n. or-right (not (none (points ++ ranges))) (eqb owed 0) (eq-eqb owed 0 (f .owed-empty n)))
+      (λ n. or-left (not (none (points ++ ranges))) (eqb owed 0) (ap not n)))
 
 -- The order by key, for all pairs.
 ascend-above : (e : List ℕ) (least : ℕ) (ss : List ℕ) → ascend e least ss ≡ true → All (λ s. least ≤ order-key e s) ss
@@ -98,7 +101,8 @@ ascend-above e least (s ∷ ss) h =
 
 module _ (e : List ℕ) where
   point-spans : (s : ℕ) → is-point e s ≡ true → lo-of e s ≡ hi-of e s
-  point-spans s h = eqb-true (lo-of e s) (hi-of e s) (and-left (eqb (lo-of e s) (hi-of e s)) (eqb (kind-of e s) 1 || (eqb (kind-of e s) 2 && eqb (tally-of e s) 0)) h)
+  point-spans s h =
+      eqb-true (lo-of e s) (hi-of e s) (and-left (eqb (lo-of e s) (hi-of e s)) (eqb (kind-of e s) 1 || (eqb (kind-of e s) 2 && eqb (tally-of e s) 0)) h)
 
   points-ascend : (least : ℕ) (ss : List ℕ) → All (λ s. is-point e s ≡ true) ss → ascend e least ss ≡ true → Ascending point-before (map (read-point e) ss)
   unfolding ascend
@@ -110,7 +114,8 @@ module _ (e : List ℕ) where
         points-ascend (order-key e s + 1) ss (f .1) rest,
       )
     where
-      both : (ts : List ℕ) → All (λ t. is-point e t ≡ true) ts → All (λ t. order-key e s + 1 ≤ order-key e t) ts → All (λ t. point-before (read-point e s) (read-point e t) ≡ true) ts
+      both : (ts : List ℕ) → All (λ t. is-point e t ≡ true) ts → All (λ t. order-key e s + 1 ≤ order-key e t) ts
+          → All (λ t. point-before (read-point e s) (read-point e t) ≡ true) ts
       both [] a b = tt
       both (t ∷ ts) a b = (lt-ltb (lo-of e s) (lo-of e t) (omega (arith, point-spans s (f .0), point-spans t (a .0), b .0)), both ts (a .1) (b .1))
 
@@ -118,14 +123,16 @@ module _ (e : List ℕ) where
   range-less w s t h = by-cases (eqb (lo-of e s) (lo-of e t))
       (λ q. or-right (ltb (lo-of e s) (lo-of e t)) _ (and-intro (eqb (lo-of e s) (lo-of e t)) (ltb (hi-of e s) (hi-of e t)) q
       (lt-ltb (hi-of e s) (hi-of e t) (omega (arith, eqb-true (lo-of e s) (lo-of e t) q)))))
-      (λ q. or-left (ltb (lo-of e s) (lo-of e t)) _ (lt-ltb (lo-of e s) (lo-of e t) (omega (arith, eqb-false (lo-of e s) (lo-of e t) q, hi-small e w s, hi-small e w t))))
+      (λ q. or-left (ltb (lo-of e s) (lo-of e t)) _
+      (lt-ltb (lo-of e s) (lo-of e t) (omega (arith, eqb-false (lo-of e s) (lo-of e t) q, hi-small e w s, hi-small e w t))))
 
   ranges-ascend : Fits32 e → (least : ℕ) (ss : List ℕ) → ascend e least ss ≡ true → Ascending range-before (map (read-range e) ss)
   unfolding ascend
   ranges-ascend w least [] h = tt
   ranges-ascend w least (s ∷ ss) h =
       let rest : ascend e (order-key e s + 1) ss ≡ true = and-right (leb least (order-key e s)) _ h in (
-        all-map (read-range e) (λ q. range-before (read-range e s) q ≡ true) ss (all-weaken _ _ (λ t b. range-less w s t b) ss (ascend-above e (order-key e s + 1) ss rest)),
+        all-map (read-range e) (λ q. range-before (read-range e s) q ≡ true) ss
+            (all-weaken _ _ (λ t b. range-less w s t b) ss (ascend-above e (order-key e s + 1) ss rest)),
         ranges-ascend w (order-key e s + 1) ss rest,
       )
 
@@ -144,11 +151,13 @@ module _ (e l : List ℕ) (i : ℕ) (w : Fits32 e) (f : LevelSound e l i) where
   )
 
   -- A record that is no put has the level owing since its stamp or before.
-  owing : (s : ℕ) → owed-before e (level-row l i .owed) s ≡ true → eqb (kind-of e s) 1 ≡ false → (1 ≤ level-row l i .owed) × (level-row l i .owed ≤ stamp-of e s)
+  owing : (s : ℕ) → owed-before e (level-row l i .owed) s ≡ true → eqb (kind-of e s) 1 ≡ false
+      → (1 ≤ level-row l i .owed) × (level-row l i .owed ≤ stamp-of e s)
   owing s h k =
-      let both = or-second (eqb (kind-of e s) 1) (not (eqb (level-row l i .owed) 0) && leb (level-row l i .owed) (stamp-of e s)) h k in
-      let ne = eqb-false (level-row l i .owed) 0 (not-true (eqb (level-row l i .owed) 0) (and-left (not (eqb (level-row l i .owed) 0)) (leb (level-row l i .owed) (stamp-of e s)) both)) in
-      (omega arith, leb-true (level-row l i .owed) (stamp-of e s) (and-right (not (eqb (level-row l i .owed) 0)) (leb (level-row l i .owed) (stamp-of e s)) both))
+      let owed = level-row l i .owed in
+      let both = or-second (eqb (kind-of e s) 1) (not (eqb owed 0) && leb owed (stamp-of e s)) h k in
+      let ne = eqb-false owed 0 (not-true (eqb owed 0) (and-left (not (eqb owed 0)) (leb owed (stamp-of e s)) both)) in
+      (omega arith, leb-true owed (stamp-of e s) (and-right (not (eqb owed 0)) (leb owed (stamp-of e s)) both))
 
   put-kind : (s : ℕ) (b : Bool) → eqb (kind-of e s) 1 ≡ b → is-put (cond b (value (tally-of e s)) tombstone) ≡ false → b ≡ false
   put-kind s true q h = h
@@ -156,10 +165,17 @@ module _ (e l : List ℕ) (i : ℕ) (w : Fits32 e) (f : LevelSound e l i) where
 
   range-kind : (s : ℕ) → is-range e s ≡ true → eqb (kind-of e s) 1 ≡ false
   range-kind s h =
-      let three = eqb-true (kind-of e s) 3 (and-left (eqb (kind-of e s) 3) (eqb (tally-of e s) 0) (and-right (leb (lo-of e s) (hi-of e s)) (eqb (kind-of e s) 3 && eqb (tally-of e s) 0) h)) in
+      let form = and-right (leb (lo-of e s) (hi-of e s)) (eqb (kind-of e s) 3 && eqb (tally-of e s) 0) h in
+      let three = eqb-true (kind-of e s) 3 (and-left (eqb (kind-of e s) 3) (eqb (tally-of e s) 0) form) in
       ne-eqb (kind-of e s) 1 (omega arith)
 
-  both-ranges : (ss : List ℕ) → All (λ s. is-range e s ≡ true) ss → All (λ s. owed-before e (level-row l i .owed) s ≡ true) ss → All (λ s. (1 ≤ level-row l i .owed) × (level-row l i .owed ≤ stamp-of e s)) ss
+  range-span : (s : ℕ) → is-range e s ≡ true → (lo-of e s ≤ hi-of e s) × (hi-of e s ≤ 65535)
+  range-span s h =
+      let ordered = and-left (leb (lo-of e s) (hi-of e s)) (eqb (kind-of e s) 3 && eqb (tally-of e s) 0) h in
+      (leb-true (lo-of e s) (hi-of e s) ordered, hi-small e w s)
+
+  both-ranges : (ss : List ℕ) → All (λ s. is-range e s ≡ true) ss → All (λ s. owed-before e (level-row l i .owed) s ≡ true) ss
+      → All (λ s. (1 ≤ level-row l i .owed) × (level-row l i .owed ≤ stamp-of e s)) ss
   both-ranges [] a b = tt
   both-ranges (s ∷ ss) a b = (owing s (b .0) (range-kind s (a .0)), both-ranges ss (a .1) (b .1))
 
@@ -168,12 +184,13 @@ module _ (e l : List ℕ) (i : ℕ) (w : Fits32 e) (f : LevelSound e l i) where
   level-reads-formed = record {
     keys = all-map (read-point e) _ ps (all-every _ (λ s. omega arith) ps);
     points-ascend = points-ascend e 0 ps (f .point-forms) (f .point-order);
-    spans = all-map (read-range e) _ rs (all-weaken _ _ (λ s h. (leb-true (lo-of e s) (hi-of e s) (and-left (leb (lo-of e s) (hi-of e s)) (eqb (kind-of e s) 3 && eqb (tally-of e s) 0) h), hi-small e w s)) rs (f .range-forms));
+    spans = all-map (read-range e) _ rs (all-weaken _ _ range-span rs (f .range-forms));
     ranges-ascend = ranges-ascend e w 0 rs (f .range-order);
     point-stamps = all-map (read-point e) _ ps (all-weaken _ _ stamped ps (all-left _ ps rs (f .stamps)));
     range-stamps = all-map (read-range e) _ rs (all-weaken _ _ stamped rs (all-right _ ps rs (f .stamps)));
     owed-clock = f .owed-clock;
     owed-points = all-map (read-point e) _ ps (all-weaken _ _ (λ s h q. owing s h (put-kind s (eqb (kind-of e s) 1) refl q)) ps (all-left _ ps rs (f .owes)));
     owed-ranges = all-map (read-range e) _ rs (both-ranges rs (f .range-forms) (all-right _ ps rs (f .owes)));
-    owed-empty = λ h. f .owed-empty (none-of-length (ps ++ rs) (omega (arith, length-append ps rs, length-map ps (read-point e), length-map rs (read-range e))));
+    owed-empty = λ h. f .owed-empty
+        (none-of-length (ps ++ rs) (omega (arith, length-append ps rs, length-map ps (read-point e), length-map rs (read-range e))));
   }

@@ -30,8 +30,11 @@ pub record OnceFacts (n : ℕ) (ss : List ℕ) : Type 0 where
   pub each : (s : ℕ) → 1 ≤ s → s ≤ n → times s ss ≡ 1
 
 pub once-facts : (n : ℕ) (ss : List ℕ) → every-slot-once n ss ≡ true → OnceFacts n ss
-once-facts n ss h = record
-    { number = eqb-true (length ss) n (and-left (eqb (length ss) n) (once-each n ss) h); each = once-at n ss (and-right (eqb (length ss) n) (once-each n ss) h) }
+once-facts n ss h =
+    record {
+      number = eqb-true (length ss) n (and-left (eqb (length ss) n) (once-each n ss) h);
+      each = once-at n ss (and-right (eqb (length ss) n) (once-each n ss) h);
+    }
 
 -- How many of the list are from 1 to n, slot by slot: at most all, and then no other stands in it.
 tally-upto : ℕ → List ℕ → ℕ
@@ -109,7 +112,9 @@ once-most n ss o s = go (decLt s 1) (decLt n s)
 each-once : (n : ℕ) (ss : List ℕ) → ((s : ℕ) → 1 ≤ s → s ≤ n → times s ss ≡ 1) → once-each n ss ≡ true
 unfolding once-each
 each-once zero ss h = refl
-each-once (suc n) ss h = and-intro (eqb (times (suc n) ss) 1) (once-each n ss) (eq-eqb (times (suc n) ss) 1 (h (suc n) (omega arith) (omega arith))) (each-once n ss (λ s a b. h s a (omega arith)))
+each-once (suc n) ss h =
+    let here = eq-eqb (times (suc n) ss) 1 (h (suc n) (omega arith) (omega arith)) in
+    and-intro (eqb (times (suc n) ss) 1) (once-each n ss) here (each-once n ss (λ s a b. h s a (omega arith)))
 
 pub facts-once : (n : ℕ) (ss : List ℕ) → OnceFacts n ss → every-slot-once n ss ≡ true
 facts-once n ss o = and-intro (eqb (length ss) n) (once-each n ss) (eq-eqb (length ss) n (o .number)) (each-once n ss (o .each))

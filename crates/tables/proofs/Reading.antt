@@ -60,10 +60,12 @@ module _ (n : ℕ) (e : List ℕ) (small : n < 65536) where
       let stamp≡ : stamp-of e (r .slot) ≡ r .stamp = ap (λ (x : Slot). x .stamp) row in
       rw (lo≡, hi≡, stamp≡)
 
-  pub points-back : (ps : List (Point ℕ ℕ)) → All (λ p. p .key ≤ 65535) ps → Chained n e (map point-cell ps) → map (read-point e) (cell-slots (map point-cell ps)) ≡ ps
+  pub points-back : (ps : List (Point ℕ ℕ)) → All (λ p. p .key ≤ 65535) ps → Chained n e (map point-cell ps)
+      → map (read-point e) (cell-slots (map point-cell ps)) ≡ ps
   points-back [] k h = refl
   points-back (p ∷ ps) k h = rw (point-back p (map point-cell ps) (k .0) h, points-back ps (k .1) (h .3))
 
-  pub ranges-back : (rs : List (Range ℕ)) → All (λ r. (r .lo ≤ r .hi) × (r .hi ≤ 65535)) rs → Chained n e (map range-cell rs) → map (read-range e) (cell-slots (map range-cell rs)) ≡ rs
+  pub ranges-back : (rs : List (Range ℕ)) → All (λ r. (r .lo ≤ r .hi) × (r .hi ≤ 65535)) rs → Chained n e (map range-cell rs)
+      → map (read-range e) (cell-slots (map range-cell rs)) ≡ rs
   ranges-back [] k h = refl
   ranges-back (r ∷ rs) k h = rw (range-back r (map range-cell rs) (k .0 .0) (k .0 .1) h, ranges-back rs (k .1) (h .3))

@@ -28,7 +28,8 @@ few-left n xs ys f = (omega (arith, length-append xs ys, f .0), all-left (Inside
 few-right : (n : ℕ) (xs ys : List ℕ) → Few n (xs ++ ys) → Few n ys
 few-right n xs ys f = (omega (arith, length-append xs ys, f .0), all-right (Inside n) xs ys (f .1))
 
-few-level : (n : ℕ) (e l : List ℕ) (j first i : ℕ) → first ≤ i → i < first + j → Few n (record-slots e l j first) → Few n (point-chain e l i ++ range-chain e l i)
+few-level : (n : ℕ) (e l : List ℕ) (j first i : ℕ) → first ≤ i → i < first + j → Few n (record-slots e l j first)
+    → Few n (point-chain e l i ++ range-chain e l i)
 unfolding record-slots
 few-level n e l zero first i a b f = absurd (omega arith)
 few-level n e l (suc j) first i a b f = go (λ a b. few-level n e l j (suc first) i a b (few-right n here rest f)) (ℕ-discrete i first)

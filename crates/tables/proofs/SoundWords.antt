@@ -45,7 +45,9 @@ levels-at : (e l : List ℕ) (j i m : ℕ) → levels-sound e l j i ≡ true →
 unfolding levels-sound
 levels-at e l zero i m h a b = absurd (omega arith)
 levels-at e l (suc j) i m h a b =
-    go (levels-at e l j (suc i) m (and-right (level-sound e l i) (levels-sound e l j (suc i)) h)) (and-left (level-sound e l i) (levels-sound e l j (suc i)) h) (ℕ-discrete m i)
+    let here = level-sound e l i in
+    let rest = levels-sound e l j (suc i) in
+    go (levels-at e l j (suc i) m (and-right here rest h)) (and-left here rest h) (ℕ-discrete m i)
   where
     go : (suc i ≤ m → m < suc i + j → level-sound e l m ≡ true) → level-sound e l i ≡ true → Dec (m ≡ i) → level-sound e l m ≡ true
     go ih here (yes q) = rw q here
@@ -153,30 +155,36 @@ module _ (e l : List ℕ) (w : Fits32 e) (f : Sound e l) where
     deepest-owes-nothing =
         ap (λ (v : Level ℕ ℕ). v .owed) (read-levels-at e l (suc (settings-of l .deepest)) 0 (settings-of l .deepest) (omega arith))
         ∙ ap (λ k. level-row l k .owed) (omega arith) ∙ f .deepest-owes-nothing;
-    slots-once = rw (read-slots e l (suc (settings-of l .deepest)) 0) (facts-once (slots-of e) (free-chain e ++ record-slots e l (suc (settings-of l .deepest)) 0) (f .once));
+    slots-once = rw (read-slots e l (suc (settings-of l .deepest)) 0)
+        (facts-once (slots-of e) (free-chain e ++ record-slots e l (suc (settings-of l .deepest)) 0) (f .once));
   }
 
   -- A chain of the table, with the cells that it reads as.
   chain-held : (cell : ℕ → Cell) → ((s : ℕ) → cell s .slot ≡ s) → (h : ℕ) → length (chain-from e h) ≤ n → All (Inside n) (chain-from e h)
-      → All (λ s. slot-at e s ≡ cell-slot (next-of e s) (cell s)) (chain-from e h) → (Chained n e (map cell (chain-from e h))) × (head (map cell (chain-from e h)) ≡ h)
+      → All (λ s. slot-at e s ≡ cell-slot (next-of e s) (cell s)) (chain-from e h)
+      → (Chained n e (map cell (chain-from e h))) × (head (map cell (chain-from e h)) ≡ h)
   unfolding n
-  chain-held cell own h short i r = linked-chained (slots-of e) e cell own h (chain-from e h) (chain-linked (length e) e h (omega (arith, f .length-entries))) i r
+  chain-held cell own h short i r =
+      linked-chained (slots-of e) e cell own h (chain-from e h) (chain-linked (length e) e h (omega (arith, f .length-entries))) i r
 
   free-held : (Chained n e (map free-cell (free-chain e))) × (head (map free-cell (free-chain e)) ≡ first-free e)
-  free-held = chain-held free-cell (λ s. refl) (first-free e) (omega (arith, total)) (all-left (Inside n) (free-chain e) (record-slots e l (suc deepest) 0) inside)
+  free-held =
+      chain-held free-cell (λ s. refl) (first-free e) (omega (arith, total)) (all-left (Inside n) (free-chain e) (record-slots e l (suc deepest) 0) inside)
       (all-weaken _ _ (λ s. free-written e s) (free-chain e) (f .free-forms))
 
   points-held : (i : ℕ) → i ≤ settings-of l .deepest → length (point-chain e l i) ≤ n → All (Inside n) (point-chain e l i)
-      → (Chained n e (map point-cell (map (read-point e) (point-chain e l i)))) × (head (map point-cell (map (read-point e) (point-chain e l i))) ≡ level-row l i .points)
+      → let cells = map point-cell (map (read-point e) (point-chain e l i)) in (Chained n e cells) × (head cells ≡ level-row l i .points)
   points-held i k short a =
       rw (map-map (read-point e) point-cell (point-chain e l i))
-      (chain-held (λ s. point-cell (read-point e s)) (λ s. refl) (level-row l i .points) short a (all-weaken _ _ (λ s. point-written e s) (point-chain e l i) (f .levels i k .point-forms)))
+      (chain-held (λ s. point-cell (read-point e s)) (λ s. refl) (level-row l i .points) short a
+      (all-weaken _ _ (λ s. point-written e s) (point-chain e l i) (f .levels i k .point-forms)))
 
   ranges-held : (i : ℕ) → i ≤ settings-of l .deepest → length (range-chain e l i) ≤ n → All (Inside n) (range-chain e l i)
-      → (Chained n e (map range-cell (map (read-range e) (range-chain e l i)))) × (head (map range-cell (map (read-range e) (range-chain e l i))) ≡ level-row l i .ranges)
+      → let cells = map range-cell (map (read-range e) (range-chain e l i)) in (Chained n e cells) × (head cells ≡ level-row l i .ranges)
   ranges-held i k short a =
       rw (map-map (read-range e) range-cell (range-chain e l i))
-      (chain-held (λ s. range-cell (read-range e s)) (λ s. refl) (level-row l i .ranges) short a (all-weaken _ _ (λ s. range-written e s) (range-chain e l i) (f .levels i k .range-forms)))
+      (chain-held (λ s. range-cell (read-range e s)) (λ s. refl) (level-row l i .ranges) short a
+      (all-weaken _ _ (λ s. range-written e s) (range-chain e l i) (f .levels i k .range-forms)))
 
   -- A level's two chains, and its row.
   record LevelHeld (i : ℕ) : Type 0 where
@@ -184,7 +192,8 @@ module _ (e l : List ℕ) (w : Fits32 e) (f : Sound e l) where
     ranges : Chained n e (map range-cell (map (read-range e) (range-chain e l i)))
     row : level-row l i ≡ row-of-level (read-level e l i)
 
-  level-held : (i : ℕ) → i ≤ settings-of l .deepest → length (point-chain e l i ++ range-chain e l i) ≤ n → All (Inside n) (point-chain e l i ++ range-chain e l i) → LevelHeld i
+  level-held : (i : ℕ) → i ≤ settings-of l .deepest → length (point-chain e l i ++ range-chain e l i) ≤ n
+      → All (Inside n) (point-chain e l i ++ range-chain e l i) → LevelHeld i
   level-held i k short a =
       let ps : List ℕ = point-chain e l i in
       let rs : List ℕ = range-chain e l i in
@@ -211,14 +220,18 @@ module _ (e l : List ℕ) (w : Fits32 e) (f : Sound e l) where
       let t = all-held j (suc i) (omega arith) (omega (arith, length-append here rest)) (all-right (Inside n) here rest a) in
       ((h .points, (h .ranges, t .0)), λ m x y. at m x y (h .row) (t .1) (ℕ-discrete m i))
     where
-      at : (m : ℕ) → i ≤ m → m < i + suc j → level-row l i ≡ row-of-level (read-level e l i) → ((m : ℕ) → suc i ≤ m → m < suc i + j → level-row l m ≡ row-of-level (read-level e l m))
+      at : (m : ℕ) → i ≤ m → m < i + suc j → level-row l i ≡ row-of-level (read-level e l i)
+          → ((m : ℕ) → suc i ≤ m → m < suc i + j → level-row l m ≡ row-of-level (read-level e l m))
           → Dec (m ≡ i) → level-row l m ≡ row-of-level (read-level e l m)
       at m x y here rest (yes q) = rw q here
       at m x y here rest (no q) = rest m (omega arith) (omega arith)
 
-  held-here : (AllChained n e (level-chains (read-levels e l (suc (settings-of l .deepest)) 0))) × ((m : ℕ) → 0 ≤ m → m < 0 + suc (settings-of l .deepest) → level-row l m ≡ row-of-level (read-level e l m))
+  held-here : (AllChained n e (level-chains (read-levels e l (suc (settings-of l .deepest)) 0))) ×
+      ((m : ℕ) → 0 ≤ m → m < 0 + suc (settings-of l .deepest) → level-row l m ≡ row-of-level (read-level e l m))
   unfolding deepest
-  held-here = all-held (suc (settings-of l .deepest)) 0 (omega arith) (omega (arith, total)) (all-right (Inside n) (free-chain e) (record-slots e l (suc (settings-of l .deepest)) 0) inside)
+  held-here =
+      all-held (suc (settings-of l .deepest)) 0 (omega arith) (omega (arith, total))
+      (all-right (Inside n) (free-chain e) (record-slots e l (suc (settings-of l .deepest)) 0) inside)
 
   pub sound-holds : Holds (slots-of e) (top-of (read-state e l)) (all-chains (read-state e l)) e
   unfolding read-state n

@@ -51,42 +51,57 @@ module _ (n : ℕ) (e : List ℕ) (small : n < 65536) where
   pub point-form : (p : Point ℕ ℕ) (next : ℕ) → next ≤ n → p .key ≤ 65535 → slot-at e (p .slot) ≡ cell-slot next (point-cell p) → is-point e (p .slot) ≡ true
   point-form p next b k row =
       let w1≡ : span-of e (p .slot) ≡ p .key + 65536 * p .key = cell-span e n next (point-cell p) small b row in
-      and-intro (eqb (lo-of e (p .slot)) (hi-of e (p .slot))) _ (eq-eqb (lo-of e (p .slot)) (hi-of e (p .slot)) (omega arith)) (kinds (p .entry) (cell-kind e n next (point-cell p) small b row) (cell-tally e n next (point-cell p) small b row))
+      let kind≡ = cell-kind e n next (point-cell p) small b row in
+      let tally≡ = cell-tally e n next (point-cell p) small b row in
+      and-intro (eqb (lo-of e (p .slot)) (hi-of e (p .slot))) _ (eq-eqb (lo-of e (p .slot)) (hi-of e (p .slot)) (omega arith)) (kinds (p .entry) kind≡ tally≡)
     where
-      kinds : (x : Entry ℕ) → kind-of e (p .slot) ≡ entry-kind x → tally-of e (p .slot) ≡ entry-tally x → eqb (kind-of e (p .slot)) 1 || (eqb (kind-of e (p .slot)) 2 && eqb (tally-of e (p .slot)) 0) ≡ true
+      kinds : (x : Entry ℕ) → kind-of e (p .slot) ≡ entry-kind x → tally-of e (p .slot) ≡ entry-tally x
+          → eqb (kind-of e (p .slot)) 1 || (eqb (kind-of e (p .slot)) 2 && eqb (tally-of e (p .slot)) 0) ≡ true
       kinds (value a) q t = rw q
       kinds tombstone q t = rw (q, t)
 
-  pub range-form : (r : Range ℕ) (next : ℕ) → next ≤ n → (r .lo ≤ r .hi) × (r .hi ≤ 65535) → slot-at e (r .slot) ≡ cell-slot next (range-cell r) → is-range e (r .slot) ≡ true
+  pub range-form : (r : Range ℕ) (next : ℕ) → next ≤ n → (r .lo ≤ r .hi) × (r .hi ≤ 65535) → slot-at e (r .slot) ≡ cell-slot next (range-cell r)
+      → is-range e (r .slot) ≡ true
   range-form r next b k row =
       let w1≡ : span-of e (r .slot) ≡ r .lo + 65536 * r .hi = cell-span e n next (range-cell r) small b row in
-      rw (le-leb (lo-of e (r .slot)) (hi-of e (r .slot)) (omega (arith, k .0, k .1)), cell-kind e n next (range-cell r) small b row, cell-tally e n next (range-cell r) small b row)
+      let kind≡ = cell-kind e n next (range-cell r) small b row in
+      let tally≡ = cell-tally e n next (range-cell r) small b row in
+      rw (le-leb (lo-of e (r .slot)) (hi-of e (r .slot)) (omega (arith, k .0, k .1)), kind≡, tally≡)
 
-  pub stamp-form : (c : Cell) (next : ℕ) → next ≤ n → (1 ≤ c .stamp) × (c .stamp ≤ clock-of e) → slot-at e (c .slot) ≡ cell-slot next c → is-stamped e (c .slot) ≡ true
+  pub stamp-form : (c : Cell) (next : ℕ) → next ≤ n → (1 ≤ c .stamp) × (c .stamp ≤ clock-of e) → slot-at e (c .slot) ≡ cell-slot next c
+      → is-stamped e (c .slot) ≡ true
   stamp-form c next b k row =
       let s≡ : stamp-of e (c .slot) ≡ c .stamp = cell-stamp e n next c small b row in
-      and-intro (leb 1 (stamp-of e (c .slot))) (leb (stamp-of e (c .slot)) (clock-of e)) (le-leb 1 (stamp-of e (c .slot)) (omega (arith, k .0))) (le-leb (stamp-of e (c .slot)) (clock-of e) (omega (arith, k .1)))
+      let stamp = stamp-of e (c .slot) in
+      and-intro (leb 1 stamp) (leb stamp (clock-of e)) (le-leb 1 stamp (omega (arith, k .0))) (le-leb stamp (clock-of e) (omega (arith, k .1)))
 
-  pub owed-form : (c : Cell) (owed next : ℕ) → next ≤ n → (eqb (c .kind) 1 ≡ false → (1 ≤ owed) × (owed ≤ c .stamp)) → slot-at e (c .slot) ≡ cell-slot next c → owed-before e owed (c .slot) ≡ true
+  pub owed-form : (c : Cell) (owed next : ℕ) → next ≤ n → (eqb (c .kind) 1 ≡ false → (1 ≤ owed) × (owed ≤ c .stamp)) → slot-at e (c .slot) ≡ cell-slot next c
+      → owed-before e owed (c .slot) ≡ true
   owed-form c owed next b k row =
       let k≡ : kind-of e (c .slot) ≡ c .kind = cell-kind e n next c small b row in
       let s≡ : stamp-of e (c .slot) ≡ c .stamp = cell-stamp e n next c small b row in
       by-cases (eqb (c .kind) 1)
       (λ q. or-left (eqb (kind-of e (c .slot)) 1) _ (ap (λ x. eqb x 1) k≡ ∙ q))
-      (λ q. or-right (eqb (kind-of e (c .slot)) 1) _ (and-intro (not (eqb owed 0)) (leb owed (stamp-of e (c .slot))) (ap not (ne-eqb owed 0 (omega (arith, k q .0)))) (le-leb owed (stamp-of e (c .slot)) (omega (arith, k q .1)))))
+      (λ q. or-right (eqb (kind-of e (c .slot)) 1) _
+      (and-intro (not (eqb owed 0)) (leb owed (stamp-of e (c .slot)))
+      (ap not (ne-eqb owed 0 (omega (arith, k q .0)))) (le-leb owed (stamp-of e (c .slot)) (omega (arith, k q .1)))))
 
   -- The orders, by key.
-  point-key : (p : Point ℕ ℕ) (next : ℕ) → next ≤ n → p .key ≤ 65535 → slot-at e (p .slot) ≡ cell-slot next (point-cell p) → order-key e (p .slot) ≡ p .key * 65536 + p .key
+  point-key : (p : Point ℕ ℕ) (next : ℕ) → next ≤ n → p .key ≤ 65535 → slot-at e (p .slot) ≡ cell-slot next (point-cell p)
+      → order-key e (p .slot) ≡ p .key * 65536 + p .key
   point-key p next b k row = let w1≡ : span-of e (p .slot) ≡ p .key + 65536 * p .key = cell-span e n next (point-cell p) small b row in omega arith
 
-  range-key : (r : Range ℕ) (next : ℕ) → next ≤ n → (r .lo ≤ r .hi) × (r .hi ≤ 65535) → slot-at e (r .slot) ≡ cell-slot next (range-cell r) → order-key e (r .slot) ≡ r .lo * 65536 + r .hi
+  range-key : (r : Range ℕ) (next : ℕ) → next ≤ n → (r .lo ≤ r .hi) × (r .hi ≤ 65535) → slot-at e (r .slot) ≡ cell-slot next (range-cell r)
+      → order-key e (r .slot) ≡ r .lo * 65536 + r .hi
   range-key r next b k row = let w1≡ : span-of e (r .slot) ≡ r .lo + 65536 * r .hi = cell-span e n next (range-cell r) small b row in omega (arith, k .0, k .1)
 
-  pub points-order : (ps : List (Point ℕ ℕ)) (least : ℕ) → All (λ p. p .key ≤ 65535) ps → Ascending point-before ps → All (λ p. least ≤ p .key * 65536 + p .key) ps → Chained n e (map point-cell ps) → ascend e least (cell-slots (map point-cell ps)) ≡ true
+  pub points-order : (ps : List (Point ℕ ℕ)) (least : ℕ) → All (λ p. p .key ≤ 65535) ps → Ascending point-before ps
+      → All (λ p. least ≤ p .key * 65536 + p .key) ps → Chained n e (map point-cell ps) → ascend e least (cell-slots (map point-cell ps)) ≡ true
   unfolding ascend
   points-order [] least k a m c = refl
   points-order (p ∷ ps) least k a m c =
-      let key≡ : order-key e (p .slot) ≡ p .key * 65536 + p .key = point-key p (head (map point-cell ps)) (head-small n e (map point-cell ps) (c .3)) (k .0) (c .2) in
+      let key≡ : order-key e (p .slot) ≡ p .key * 65536 + p .key =
+      point-key p (head (map point-cell ps)) (head-small n e (map point-cell ps) (c .3)) (k .0) (c .2) in
       and-intro (leb least (order-key e (p .slot))) _ (le-leb least (order-key e (p .slot)) (omega (arith, m .0)))
       (points-order ps (order-key e (p .slot) + 1) (k .1) (a .1) (all-weaken _ _ (λ q h. omega (arith, ltb-true (p .key) (q .key) h)) ps (a .0)) (c .3))
 
@@ -94,12 +109,15 @@ module _ (n : ℕ) (e : List ℕ) (small : n < 65536) where
   range-above r q b h = by-cases (ltb (r .lo) (q .lo))
       (λ x. omega (arith, ltb-true (r .lo) (q .lo) x))
       (λ x. let y = or-second (ltb (r .lo) (q .lo)) (eqb (r .lo) (q .lo) && ltb (r .hi) (q .hi)) h x in
-      omega (arith, eqb-true (r .lo) (q .lo) (and-left (eqb (r .lo) (q .lo)) (ltb (r .hi) (q .hi)) y), ltb-true (r .hi) (q .hi) (and-right (eqb (r .lo) (q .lo)) (ltb (r .hi) (q .hi)) y)))
+      let same = eqb-true (r .lo) (q .lo) (and-left (eqb (r .lo) (q .lo)) (ltb (r .hi) (q .hi)) y) in
+      omega (arith, same, ltb-true (r .hi) (q .hi) (and-right (eqb (r .lo) (q .lo)) (ltb (r .hi) (q .hi)) y)))
 
-  pub ranges-order : (rs : List (Range ℕ)) (least : ℕ) → All (λ r. (r .lo ≤ r .hi) × (r .hi ≤ 65535)) rs → Ascending range-before rs → All (λ r. least ≤ r .lo * 65536 + r .hi) rs → Chained n e (map range-cell rs) → ascend e least (cell-slots (map range-cell rs)) ≡ true
+  pub ranges-order : (rs : List (Range ℕ)) (least : ℕ) → All (λ r. (r .lo ≤ r .hi) × (r .hi ≤ 65535)) rs → Ascending range-before rs
+      → All (λ r. least ≤ r .lo * 65536 + r .hi) rs → Chained n e (map range-cell rs) → ascend e least (cell-slots (map range-cell rs)) ≡ true
   unfolding ascend
   ranges-order [] least k a m c = refl
   ranges-order (r ∷ rs) least k a m c =
-      let key≡ : order-key e (r .slot) ≡ r .lo * 65536 + r .hi = range-key r (head (map range-cell rs)) (head-small n e (map range-cell rs) (c .3)) (k .0) (c .2) in
+      let key≡ : order-key e (r .slot) ≡ r .lo * 65536 + r .hi =
+      range-key r (head (map range-cell rs)) (head-small n e (map range-cell rs) (c .3)) (k .0) (c .2) in
       and-intro (leb least (order-key e (r .slot))) _ (le-leb least (order-key e (r .slot)) (omega (arith, m .0)))
       (ranges-order rs (order-key e (r .slot) + 1) (k .1) (a .1) (all-weaken _ _ (λ q h. omega (arith, range-above r q (k .0 .1) h)) rs (a .0)) (c .3))

@@ -1,4 +1,4 @@
--- `chain_cover::seek`: the loop keeps true that the chain from `at` is ordered, and that what begins at the docket or later of it is what does of the chain from `from`.
+-- `seek`: the loop keeps that the chain from `at` is ordered, and that what begins at the docket or later stands in it as in the chain from `from`.
 use mathlib.Core.Path.{_≡_, refl, sym, ap, _∙_}
 use native.Mathlib.Omega.{arith}
 use lib.ListN.{length}

@@ -1,4 +1,4 @@
--- The slot is wiped and linked to the first free one, and then is the first itself.
+-- `release`: the slot is wiped and linked to the first free one, and then is the first itself.
 use mathlib.Core.Path.{ap, _∙_}
 use mathlib.Core.List.{List}
 use Prim.Native.Nat.{ℕ}
@@ -15,9 +15,10 @@ first-free-requires c κs = search needs
 
 set-free-requires : tie.Need-set-free-requires
 set-free-requires c κs =
-    let after-slice-known = c .before .before .before in
-    let entry = after-slice-known .before in
-    (omega arith, omega (arith, c .first-free .ensures, link-small (entry .args .e .now) (λ i. omega (arith, after-slice-known .slice-known .given i)) 0))
+    let known = c .before .before .before in
+    let entry = known .before in
+    let small = link-small (entry .args .e .now) (λ i. omega (arith, known .slice-known .given i)) 0 in
+    (omega arith, omega (arith, c .first-free .ensures, small))
 
 set-first-free-requires : tie.Need-set-first-free-requires
 set-first-free-requires c κs = search needs
@@ -28,11 +29,12 @@ same-length c = search needs
 returns : tie.Need-returns
 unfolding released
 returns c =
-    let after-set-first-free = c .before .before in
-    let after-set-free = after-set-first-free .before .before .before .before in
-    let after-first-free = after-set-free .before in
-    let entry = after-first-free .before .before .before .before in
-    after-set-first-free .set-first-free .ensures ∙ ap (λ (x : List ℕ). set-slot x 0 (with-link (entry .args .slot) (slot-at x 0))) (after-set-free .set-free .ensures ∙ ap (λ (k : ℕ). set-slot (entry .args .e .now) (entry .args .slot) (free-slot k)) (after-first-free .first-free .ensures))
+    let first-set = c .before .before in
+    let freed = first-set .before .before .before .before in
+    let read = freed .before in
+    let a = read .before .before .before .before .args in
+    let wiped = freed .set-free .ensures ∙ ap (λ (k : ℕ). set-slot (a .e .now) (a .slot) (free-slot k)) (read .first-free .ensures) in
+    first-set .set-first-free .ensures ∙ ap (λ (x : List ℕ). set-slot x 0 (with-link (a .slot) (slot-at x 0))) wiped
 
 pub release-spec : {M : Type 1} → statement M
 release-spec =

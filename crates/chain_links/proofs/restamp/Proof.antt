@@ -1,5 +1,6 @@
--- A stamp that is not written is the later one already.
+-- `restamp`: the later of the two stamps is written, and a stamp that is not written is the later one already.
 use mathlib.Core.Path.{sym, ap, _∙_}
+use mathlib.Core.List.{List}
 use Prim.Native.Nat.{ℕ}
 use native.Mathlib.Omega.{arith}
 use Rattle.tables.specs.Slots.{slot-at, set-slot, with-stamp}
@@ -10,8 +11,12 @@ use Rattle.chain_links.proofs.restamp.Statement.{statement}
 use Rattle.chain_links.proofs.restamp.Tie as tie
 
 -- Where the code stands, seen from a later place.
-abbrev entry-of : tie.After-stamp-of → tie.Start
-entry-of c = c .before .before .before
+abbrev entry-of : tie.After-stamp-of2 → tie.Start
+entry-of c = let first-read = c .before .before in first-read .before .before .before
+
+-- The slot with another stamp.
+abbrev with : tie.Start → ℕ → List ℕ
+with c t = let a = c .args in set-slot (a .e .now) (a .slot) (with-stamp t (slot-at (a .e .now) (a .slot)))
 
 stamp-of-requires : tie.Need-stamp-of-requires
 stamp-of-requires c κs = search needs
@@ -28,12 +33,11 @@ same-length c = search needs
 returns : tie.Need-returns
 unfolding stamped
 returns c =
-    let after-set-stamp = c .before .before in
-    let then-1 = after-set-stamp .before .before in
-    let after-stamp-of2 = then-1 .before in
-    let after-stamp-of = after-stamp-of2 .before .before in
-    let entry = entry-of after-stamp-of in
-    after-set-stamp .set-stamp .ensures ∙ ap (λ (t : ℕ). set-slot (entry .args .e .now) (entry .args .slot) (with-stamp t (slot-at (entry .args .e .now) (entry .args .slot)))) (omega (arith, after-stamp-of .stamp-of .ensures, after-stamp-of2 .stamp-of2 .ensures, then-1 .if1 .taken))
+    let written = c .before .before in
+    let earlier = written .before .before in
+    let read = earlier .before in
+    written .set-stamp .ensures
+    ∙ ap (with (entry-of read)) (omega (arith, read .before .before .stamp-of .ensures, read .stamp-of2 .ensures, earlier .if1 .taken))
 
 same-length-2 : tie.Need-same-length-2
 same-length-2 c = search needs
@@ -41,10 +45,10 @@ same-length-2 c = search needs
 returns-2 : tie.Need-returns-2
 unfolding stamped
 returns-2 c =
-    let after-stamp-of2 = c .before in
-    let after-stamp-of = after-stamp-of2 .before .before in
-    let entry = entry-of after-stamp-of in
-    sym (slot-kept (entry .args .e .now) (entry .args .slot)) ∙ ap (λ (t : ℕ). set-slot (entry .args .e .now) (entry .args .slot) (with-stamp t (slot-at (entry .args .e .now) (entry .args .slot)))) (omega (arith, after-stamp-of .stamp-of .ensures, after-stamp-of2 .stamp-of2 .ensures, c .if1 .left))
+    let read = c .before in
+    let a = entry-of read .args in
+    sym (slot-kept (a .e .now) (a .slot))
+    ∙ ap (with (entry-of read)) (omega (arith, read .before .before .stamp-of .ensures, read .stamp-of2 .ensures, c .if1 .left))
 
 pub restamp-spec : {M : Type 1} → statement M
 restamp-spec =

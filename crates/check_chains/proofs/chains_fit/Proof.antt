@@ -1,5 +1,8 @@
--- The words of slot 0 and the deepest owed, then the free chain, then the levels over its marks.
-use mathlib.Core.Path.{refl, sym, ap, _∙_}
+-- `chains_fit`: slot 0 and the deepest owed are tested, then the free chain is walked, then the levels over its marks, as `chains-checked` says.
+use mathlib.Core.Path.{_≡_, refl, sym, _∙_}
+use mathlib.Core.Bool.{true}
+use Rattle.tables.specs.Rows.{settings-of, level-row}
+use Rattle.tables.specs.Sound.{top-blank}
 use borrow.Author.Tests.{not-true, not-false}
 use native.Mathlib.Omega.{arith}
 use Rattle.lists.proofs.Branches.{unequal, fails, holds}
@@ -13,23 +16,28 @@ use Rattle.check_chains.proofs.chains_fit.Statement.{statement}
 use Rattle.check_chains.proofs.chains_fit.Tie as tie
 
 -- Where the code stands, seen from a later place.
-abbrev entry-of : tie.After-is-top-blank → tie.Start
-entry-of c = c .before .before .before .before
+abbrev entry : tie.Else1 → tie.Start
+entry c = c .before .before .before .before .before
 
-abbrev after-walk-of : tie.Else3 → tie.After-walk
-after-walk-of c = c .before .before .before .before
+abbrev blank-top : tie.After-level-at → tie.Else1
+blank-top c = c .before .before
 
-abbrev after-level-at-of : tie.After-walk → tie.After-level-at
-after-level-at-of c = c .before .before .before .before .before
+abbrev none-owed : tie.After-walk → tie.Else2
+none-owed c = c .before .before .before
 
-abbrev after-shared-slice-known2-of : tie.After-level-at → tie.After-shared-slice-known2
-after-shared-slice-known2-of c = c .before .before .before .before .before
+abbrev walked : tie.Else3 → tie.After-walk
+walked c = c .before .before .before .before
 
-abbrev entry-of-2 : tie.After-level-at → tie.Start
-entry-of-2 c = after-shared-slice-known2-of c .before .before
+-- What the tests before say: slot 0 is blank, and the deepest level owes nothing.
+top-is-blank : (c : tie.Else1) → top-blank (entry c .args .e .now) ≡ true
+top-is-blank c = holds (c .before .is-top-blank .ensures) (c .if1 .left)
 
-abbrev entry-of-3 : tie.After-walk → tie.Start
-entry-of-3 c = entry-of-2 (after-level-at-of c)
+owed-is : (c : tie.After-level-at)
+    → let l = entry (blank-top c) .args .l .now in c .level-at .result .owed ≡ level-row l (settings-of l .deepest) .owed
+owed-is c = deepest-owed (entry (blank-top c) .args .l .now) (c .level-at .ensures) (c .before .deepest-of .ensures)
+
+owes-none : (c : tie.Else2) → let l = entry (blank-top (c .before .before)) .args .l .now in level-row l (settings-of l .deepest) .owed ≡ 0
+owes-none c = sym (owed-is (c .before .before)) ∙ c .if2 .left
 
 is-top-blank-requires : tie.Need-is-top-blank-requires
 is-top-blank-requires c κs = search needs
@@ -47,12 +55,8 @@ level-at-requires c κs = search needs
 returns-2 : tie.Need-returns-2
 unfolding chains-checked
 returns-2 c =
-    let after-level-at = c .before .before in
-    let after-deepest-of = after-level-at .before in
-    let else-1 = after-deepest-of .before in
-    let after-is-top-blank = else-1 .before in
-    let entry = entry-of after-is-top-blank in
-    rw (holds (after-is-top-blank .is-top-blank .ensures) (else-1 .if1 .left), unequal (deepest-owed (entry .args .l .now) (after-level-at .level-at .ensures) (after-deepest-of .deepest-of .ensures)) refl (c .if2 .taken))
+    let read = c .before .before in
+    rw (top-is-blank (blank-top read), unequal (owed-is read) refl (c .if2 .taken))
 
 first-free-requires : tie.Need-first-free-requires
 first-free-requires c κs = search needs
@@ -65,39 +69,33 @@ same-length c = search needs
 
 returns-3 : tie.Need-returns-3
 returns-3 c =
-    let after-walk = c .before .before .before .before in
-    let after-first-free = after-walk .before .before in
-    let else-2 = after-first-free .before in
-    let after-level-at = else-2 .before .before in
-    let after-deepest-of = after-level-at .before in
-    let else-1 = after-deepest-of .before in
-    let after-is-top-blank = else-1 .before in
-    let entry = entry-of after-is-top-blank in
-    chains-fail _ _ _ (holds (after-is-top-blank .is-top-blank .ensures) (else-1 .if1 .left)) (sym (deepest-owed (entry .args .l .now) (after-level-at .level-at .ensures) (after-deepest-of .deepest-of .ensures)) ∙ else-2 .if2 .left) (after-first-free .first-free .ensures) (after-walk .walk .ensures) (not-true _ (c .if3 .taken))
+    let walked = c .before .before .before .before in
+    let tested = none-owed walked in
+    let first = walked .before .before .first-free .ensures in
+    chains-fail _ _ _ (top-is-blank (blank-top (tested .before .before))) (owes-none tested) first (walked .walk .ensures) (not-true _ (c .if3 .taken))
 
 levels-fit-requires : tie.Need-levels-fit-requires
 levels-fit-requires c κs =
-    let else-3 = c .before in
-    let after-walk = after-walk-of else-3 in
-    let entry = entry-of-3 after-walk in
-    (entry .pre .0, (omega arith, (entry .pre .1 .1 .0, (entry .pre .1 .1 .1, omega (arith, walk-sum _ _ _ _ _ (omega arith) (after-walk .walk .ensures) (not-false _ (else-3 .if3 .left)), unmarked-le (slots-of (entry .args .e .now)) (entry .args .marks .now))))))
+    let free-fits = c .before in
+    let walked = walked free-fits in
+    let entry = entry (blank-top (none-owed walked .before .before)) in
+    let sum = walk-sum _ _ _ _ _ (omega arith) (walked .walk .ensures) (not-false _ (free-fits .if3 .left)) in
+    let room = unmarked-le (slots-of (entry .args .e .now)) (entry .args .marks .now) in
+    (entry .pre .0, (omega arith, (entry .pre .1 .1 .0, (entry .pre .1 .1 .1, omega (arith, sum, room)))))
 
 same-length-2 : tie.Need-same-length-2
 same-length-2 c = search needs
 
 returns-4 : tie.Need-returns-4
 returns-4 c =
-    let after-levels-fit = c .before .before in
-    let else-3 = after-levels-fit .before .before in
-    let after-walk = after-walk-of else-3 in
-    let after-first-free = after-walk .before .before in
-    let else-2 = after-first-free .before in
-    let after-level-at = else-2 .before .before in
-    let after-deepest-of = after-level-at .before in
-    let else-1 = after-deepest-of .before in
-    let after-is-top-blank = else-1 .before in
-    let entry = entry-of after-is-top-blank in
-    after-levels-fit .levels-fit .ensures ∙ chains-go _ _ _ (holds (after-is-top-blank .is-top-blank .ensures) (else-1 .if1 .left)) (sym (deepest-owed (entry .args .l .now) (after-level-at .level-at .ensures) (after-deepest-of .deepest-of .ensures)) ∙ else-2 .if2 .left) (after-first-free .first-free .ensures) (after-walk .walk .ensures) (not-false _ (else-3 .if3 .left))
+    let answered = c .before .before in
+    let free-fits = answered .before .before in
+    let walked = walked free-fits in
+    let tested = none-owed walked in
+    let first = walked .before .before .first-free .ensures in
+    let fits = not-false _ (free-fits .if3 .left) in
+    answered .levels-fit .ensures
+    ∙ chains-go _ _ _ (top-is-blank (blank-top (tested .before .before))) (owes-none tested) first (walked .walk .ensures) fits
 
 pub chains-fit-spec : {M : Type 1} → statement M
 chains-fit-spec =

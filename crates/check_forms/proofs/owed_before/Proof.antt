@@ -18,7 +18,9 @@ stamp-of-requires : tie.Need-stamp-of-requires
 stamp-of-requires c κs = search needs
 
 returns-3 : tie.Need-returns-3
-returns-3 c = rw (unequal (c .before .before .before .kind-of .ensures) refl (c .before .before .if1 .left), unequal refl refl (c .before .if2 .left), c .stamp-of .ensures)
+returns-3 c =
+    let not-put = unequal (c .before .before .before .kind-of .ensures) refl (c .before .before .if1 .left) in
+    rw (not-put, unequal refl refl (c .before .if2 .left), c .stamp-of .ensures)
 
 pub owed-before-spec : {M : Type 1} → statement M
 owed-before-spec =

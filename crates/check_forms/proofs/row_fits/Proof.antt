@@ -43,11 +43,15 @@ returns-3 c = rw (c .before .enum-told .given .1) (c .is-free .ensures)
 
 returns-4 : tie.Need-returns-4
 unfolding row-fits
-returns-4 c = rw (c .before .before .before .enum-told2 .given .1, holds (c .before .before .is-point .ensures) (c .before .if1 .left)) (c .record-fits .ensures)
+returns-4 c =
+    let tested = c .before .before in
+    rw (tested .before .enum-told2 .given .1, holds (tested .is-point .ensures) (c .before .if1 .left)) (c .record-fits .ensures)
 
 returns-5 : tie.Need-returns-5
 unfolding row-fits
-returns-5 c = rw (c .before .before .before .enum-told3 .given .1, holds (c .before .before .is-range .ensures) (c .before .if2 .left)) (c .record-fits2 .ensures)
+returns-5 c =
+    let tested = c .before .before in
+    rw (tested .before .enum-told3 .given .1, holds (tested .is-range .ensures) (c .before .if2 .left)) (c .record-fits2 .ensures)
 
 pub row-fits-spec : {M : Type 1} → statement M
 row-fits-spec =

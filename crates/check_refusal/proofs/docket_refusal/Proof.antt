@@ -1,4 +1,4 @@
--- `check_refusal::docket_refusal` meets its contract: the tables first, then hi, then the order of lo and hi.
+-- `docket_refusal`: the tables are tested first, then hi, then the order of lo and hi, as the definition's cases stand.
 use borrow.Author.Needs.{needs}
 use Rattle.check_refusal.proofs.Refusals.{refused-tables, refused-high, refused-order, allowed}
 use Rattle.check_refusal.proofs.docket_refusal.Statement.{statement}
@@ -9,9 +9,9 @@ table-refusal-requires c κs = search needs
 
 returns : tie.Need-returns
 returns c =
-    let after-table-refusal = c .before in
-    let entry = after-table-refusal .before .before .before in
-    refused-tables _ _ (entry .args .lo) (entry .args .hi) _ (after-table-refusal .table-refusal .ensures) (c .if1 .taken)
+    let tested = c .before in
+    let entry = tested .before .before .before in
+    refused-tables _ _ (entry .args .lo) (entry .args .hi) _ (tested .table-refusal .ensures) (c .if1 .taken)
 
 returns-2 : tie.Need-returns-2
 returns-2 c = refused-high _ _ _ _ _ (c .before .before .table-refusal .ensures) (c .before .if1 .left) (c .if2 .taken)

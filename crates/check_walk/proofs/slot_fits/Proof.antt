@@ -1,10 +1,21 @@
 -- `check_walk::slot_fits`: a slot past the table or with a mark fails, and what is left is its row.
 use Rattle.check_walk.specs.Slots.{slot-fits}
 use Rattle.lists.proofs.Branches.{equal, unequal, upto, above}
-use mathlib.Core.Path.{refl}
+use mathlib.Core.Path.{_≡_, refl}
+use mathlib.Core.Bool.{true}
+use lib.Dec.{leb}
+use Rattle.tables.specs.Slots.{slots-of}
 use borrow.Author.Needs.{needs}
 use Rattle.check_walk.proofs.slot_fits.Statement.{statement}
 use Rattle.check_walk.proofs.slot_fits.Tie as tie
+
+-- Where the code stands, seen from a later place.
+abbrev entry : tie.Else1 → tie.Start
+entry c = c .before .before .before .before
+
+-- What the first test says that the slot has passed.
+inside : (c : tie.Else1) → let a = entry c .args in leb (a .s) (slots-of (a .e .now)) ≡ true
+inside c = upto refl (c .before .slot-count .ensures) (c .if1 .left)
 
 slot-count-requires : tie.Need-slot-count-requires
 slot-count-requires c κs = search needs
@@ -18,7 +29,7 @@ is-marked-requires c κs = search needs
 
 returns-2 : tie.Need-returns-2
 unfolding slot-fits
-returns-2 c = rw (upto refl (c .before .before .before .slot-count .ensures) (c .before .before .if1 .left), unequal (c .before .is-marked .ensures) refl (c .if2 .taken))
+returns-2 c = rw (inside (c .before .before), unequal (c .before .is-marked .ensures) refl (c .if2 .taken))
 
 row-fits-requires : tie.Need-row-fits-requires
 row-fits-requires c κs = search needs
@@ -26,11 +37,8 @@ row-fits-requires c κs = search needs
 returns-3 : tie.Need-returns-3
 unfolding slot-fits
 returns-3 c =
-    let else-2 = c .before in
-    let after-is-marked = else-2 .before in
-    let else-1 = after-is-marked .before in
-    let after-slot-count = else-1 .before in
-    rw (upto refl (after-slot-count .slot-count .ensures) (else-1 .if1 .left), equal (after-is-marked .is-marked .ensures) refl (else-2 .if2 .left)) (c .row-fits .ensures)
+    let mark-read = c .before .before in
+    rw (inside (mark-read .before), equal (mark-read .is-marked .ensures) refl (c .before .if2 .left)) (c .row-fits .ensures)
 
 pub slot-fits-spec : {M : Type 1} → statement M
 slot-fits-spec =

@@ -1,10 +1,12 @@
--- The loop keeps: the levels that are left give what all levels give.
+-- `look_up`: the loop keeps that the levels that are left give what all levels give.
 use mathlib.Core.Path.{_≡_, refl, sym, _∙_}
-use Prim.Native.Nat.{_+_, _-_, _≤_}
+use Prim.Native.Nat.{ℕ, suc, _+_, _-_, _≤_}
 use native.Mathlib.Omega.{arith}
 use Rattle.model.specs.Lookup.{lookup}
 use Rattle.tables.specs.Rows.{settings-of}
 use Rattle.tables.specs.Placed.{read-state}
+use Rattle.lookup_level.specs.declared.Decided.{Decided}
+use Rattle.lookup_level.specs.Answers.{settle}
 use Rattle.lookup.proofs.Levels.{look-from, look-all, look-none, look-next}
 use Rattle.lookup.proofs.look_up.Statement.{statement}
 use Rattle.lookup.proofs.look_up.Tie as tie
@@ -21,6 +23,19 @@ abbrev μ-loop : tie.MeasureT-loop
 abbrev entry-of : tie.At-loop Inv-loop μ-loop → tie.Start Inv-loop μ-loop
 entry-of c = c .before .before .before .before
 
+-- What the level of this turn says settles the lookup, or leaves it to the levels after.
+settled : (c : tie.After-look-level Inv-loop μ-loop) (next : ℕ) (w : Decided)
+    → let turn = c .before .before in
+    let e = entry-of turn .args .e .now in
+    let l = entry-of turn .args .l .now in
+    let k = entry-of turn .args .docket in
+    next ≡ suc (turn .before .deepest-of .result + 1 - turn .loop .left) → c .look-level .result ≡ w
+    → settle w (look-from e l k (turn .loop .left - 1) next) ≡ lookup (read-state e l .levels) k
+settled c next w n is =
+    let turn = c .before .before in
+    let a = entry-of turn .args in
+    sym (look-next (a .e .now) (a .l .now) (a .docket) _ _ next _ w (c .before .loop-test .taken) n (c .look-level .ensures) is) ∙ turn .loop .inv .2
+
 deepest-of-requires : tie.Need-deepest-of-requires Inv-loop μ-loop
 deepest-of-requires c κs = omega (arith, c .before .before .pre .rows)
 
@@ -28,7 +43,12 @@ add-levels : tie.Need-add-levels Inv-loop μ-loop
 add-levels c = omega (arith, c .deepest-of .ensures, c .before .before .before .pre .shallow)
 
 loop-holds : tie.Need-loop-holds Inv-loop μ-loop
-loop-holds c = (omega arith, omega (arith, c .deepest-of .ensures), look-all (c .before .before .before .args .e .now) (c .before .before .before .args .l .now) (c .before .before .before .args .docket) _ _ (omega (arith, c .deepest-of .ensures)) (omega arith))
+loop-holds c =
+    let a = c .before .before .before .args in (
+      omega arith,
+      omega (arith, c .deepest-of .ensures),
+      look-all (a .e .now) (a .l .now) (a .docket) _ _ (omega (arith, c .deepest-of .ensures)) (omega arith),
+    )
 
 sub-level : tie.Need-sub-level Inv-loop μ-loop
 sub-level c = omega arith
@@ -36,39 +56,21 @@ sub-level c = omega arith
 look-level-requires : tie.Need-look-level-requires Inv-loop μ-loop
 look-level-requires c κs =
     let turn = c .before in
-    let entry = entry-of turn in
-    (entry .pre, omega (arith, turn .loop .inv .1))
+    (entry-of turn .pre, omega (arith, turn .loop .inv .1))
 
 enum-known-tally : tie.Need-enum-known-tally Inv-loop μ-loop
 enum-known-tally c = c .match .keys1
 
 returns : tie.Need-returns Inv-loop μ-loop
 returns c =
-    let after-tally = c .before in
-    let after-look-level = after-tally .before .before in
-    let in-turn = after-look-level .before in
-    let turn = in-turn .before in
-    let entry = entry-of turn in
-    let a = entry .args in
-    sym
-    (look-next (a .e .now) (a .l .now) (a .docket) _ _ _ _ _ (in-turn .loop-test .taken) refl
-    (after-look-level .look-level .ensures) (after-tally .tally .given .1))
-    ∙ turn .loop .inv .2
+    let said = c .before .before .before in
+    settled said _ _ refl (c .before .tally .given .1)
 
 enum-told : tie.Need-enum-told Inv-loop μ-loop
 enum-told c = c .match .keys2
 
 returns-2 : tie.Need-returns-2 Inv-loop μ-loop
-returns-2 c =
-    let after-look-level = c .before .before in
-    let in-turn = after-look-level .before in
-    let turn = in-turn .before in
-    let entry = entry-of turn in
-    let a = entry .args in
-    sym
-    (look-next (a .e .now) (a .l .now) (a .docket) _ _ _ _ _ (in-turn .loop-test .taken) refl
-    (after-look-level .look-level .ensures) (c .enum-told .given .1))
-    ∙ turn .loop .inv .2
+returns-2 c = settled (c .before .before) _ _ refl (c .enum-told .given .1)
 
 enum-told-2 : tie.Need-enum-told-2 Inv-loop μ-loop
 enum-told-2 c = c .match .keys3
@@ -81,17 +83,14 @@ loop-less c = omega arith
 
 loop-again : tie.Need-loop-again Inv-loop μ-loop
 loop-again c =
-    let after-look-level = c .before .before in
-    let in-turn = after-look-level .before in
-    let turn = in-turn .before in
-    let entry = entry-of turn in
-    (omega arith, turn .loop .inv .1, sym (look-next (entry .args .e .now) (entry .args .l .now) (entry .args .docket) _ _ _ _ _ (in-turn .loop-test .taken) (omega arith) (after-look-level .look-level .ensures) (c .enum-told2 .given .1)) ∙ turn .loop .inv .2)
+    let said = c .before .before in
+    let turn = said .before .before in
+    (omega arith, turn .loop .inv .1, settled said _ _ (omega arith) (c .enum-told2 .given .1))
 
 returns-3 : tie.Need-returns-3 Inv-loop μ-loop
 returns-3 c =
     let turn = c .before in
-    let entry = entry-of turn in
-    let a = entry .args in
+    let a = entry-of turn .args in
     sym (look-none (a .e .now) (a .l .now) (a .docket) _ _ (c .loop-test .left)) ∙ turn .loop .inv .2
 
 pub look-up-spec : {M : Type 1} → statement M

@@ -1,6 +1,9 @@
--- Each return is one case of the definition: refusals 1, 6 and 2, and the made store.
-use mathlib.Core.Path.{sym, ap, _∙_}
-use borrow.Author.Tests.{not-true, not-false}
+-- `make`: each return is one case of the definition: refusals 1, 6 and 2, and the made store.
+use mathlib.Core.Path.{_≡_, sym, ap, _∙_}
+use mathlib.Core.Bool.{true}
+use lib.ListN.{length}
+use Rattle.settings.specs.Limits.{allowed}
+use Rattle.tables.specs.Sound.{entries-fit}
 use Rattle.settings.specs.declared.Settings.{Settings}
 use Rattle.settings.proofs.Answers.{accepted-same, accepted-settings, refused-settings}
 use Rattle.lists.proofs.Branches.{fails, holds}
@@ -13,17 +16,29 @@ use Rattle.make.proofs.make.Statement.{statement}
 use Rattle.make.proofs.make.Tie as tie
 
 -- Where the code stands, seen from a later place.
-abbrev after-slot-count-of : tie.After-lay-levels-arg → tie.After-slot-count
-after-slot-count-of c = c .before .before .before .before .before
+abbrev entry : tie.Else1 → tie.Start
+entry c = c .before .before .before .before .before
 
-abbrev else-2-of : tie.After-lay-levels-arg → tie.Else2
-else-2-of c = after-slot-count-of c .before .before
+abbrev fitting : tie.After-checked → tie.Else1
+fitting c = c .before .before .before
 
-abbrev after-checked-of : tie.After-slot-count → tie.After-checked
-after-checked-of c = c .before .before .before .before .before
+abbrev accepted : tie.Else2 → tie.After-checked
+accepted c = c .before .before .before
 
-abbrev else-1-of : tie.After-slot-count → tie.Else1
-else-1-of c = after-checked-of c .before .before .before
+-- The settings that are asked for.
+abbrev asked : tie.Start → Settings
+asked c = record { deepest = c .args .deepest; ratio = c .args .ratio; buffer = c .args .buffer; term = c .args .term }
+
+-- What the tests before say: the entry table fits, the settings are allowed, and the level table has their length.
+entries-right : (c : tie.Else1) → entries-fit (entry c .args .entries .now) ≡ true
+entries-right c = holds (c .before .entries-fit .ensures) (c .if1 .left)
+
+settings-right : (c : tie.After-checked) → allowed (asked (entry (fitting c))) ≡ true
+settings-right c = accepted-settings _ _ (sym (c .before .before .new .ensures) ∙ c .checked .given .1)
+
+length-right : (c : tie.Else2)
+    → let a = entry (fitting (accepted c)) .args in length (a .levels .now) ≡ level-length (a .deepest)
+length-right c = c .if2 .left ∙ c .before .level-length .ensures
 
 entries-fit-requires : tie.Need-entries-fit-requires
 entries-fit-requires c κs = search needs
@@ -48,10 +63,8 @@ same-length-2 c = search needs
 
 returns-2 : tie.Need-returns-2
 returns-2 c =
-    let after-new = c .before .before in
-    let else-1 = after-new .before in
-    let after-entries-fit = else-1 .before in
-    sym (made-not-allowed _ _ _ (holds (after-entries-fit .entries-fit .ensures) (else-1 .if1 .left)) (refused-settings _ _ (sym (after-new .new .ensures) ∙ c .enum-told .given .1)))
+    let checked = c .before .before in
+    sym (made-not-allowed _ _ _ (entries-right (checked .before)) (refused-settings _ _ (sym (checked .new .ensures) ∙ c .enum-told .given .1)))
 
 level-length-requires : tie.Need-level-length-requires
 level-length-requires c κs = search needs
@@ -61,30 +74,28 @@ same-length-3 c = search needs
 
 returns-3 : tie.Need-returns-3
 returns-3 c =
-    let after-level-length = c .before in
-    let after-checked = after-level-length .before .before in
-    let after-new = after-checked .before .before in
-    let else-1 = after-new .before in
-    let after-entries-fit = else-1 .before in
-    sym (made-other-length _ _ _ (holds (after-entries-fit .entries-fit .ensures) (else-1 .if1 .left)) (accepted-settings _ _ (sym (after-new .new .ensures) ∙ after-checked .checked .given .1)) (λ q. c .if2 .taken (q ∙ sym (after-level-length .level-length .ensures))))
+    let measured = c .before in
+    let accepted = measured .before .before in
+    sym
+    (made-other-length _ _ _ (entries-right (fitting accepted)) (settings-right accepted)
+    (λ q. c .if2 .taken (q ∙ sym (measured .level-length .ensures))))
 
 slot-count-requires : tie.Need-slot-count-requires
 slot-count-requires c κs = search needs
 
 free-slots-requires : tie.Need-free-slots-requires
 free-slots-requires c κs =
-    let after-slot-count = c .before in
-    let else-1 = else-1-of after-slot-count in
-    let after-entries-fit = else-1 .before in
-    let f = entries-facts _ (holds (after-entries-fit .entries-fit .ensures) (else-1 .if1 .left)) in (f .number ∙ ap entry-length (sym (after-slot-count .slot-count .ensures)), rw (after-slot-count .slot-count .ensures) (f .slots-high))
+    let counted = c .before .slot-count .ensures in
+    let f = entries-facts _ (entries-right (fitting (accepted (c .before .before .before)))) in
+    (f .number ∙ ap entry-length (sym counted), rw counted (f .slots-high))
 
 lay-levels-requires : tie.Need-lay-levels-requires
 lay-levels-requires c κs =
-    let else-2 = else-2-of c in
-    let after-level-length = else-2 .before in
-    let after-checked = after-level-length .before .before in
-    let after-new = after-checked .before .before in
-    else-2 .if2 .left ∙ after-level-length .level-length .ensures ∙ ap (λ (s : Settings). level-length (s .deepest)) (sym (accepted-same _ _ (sym (after-new .new .ensures) ∙ after-checked .checked .given .1)))
+    let slots-freed = c .before .before .before in
+    let measured = slots-freed .before .before .before .before in
+    let checked = accepted measured in
+    let same = accepted-same _ _ (sym (checked .before .before .new .ensures) ∙ checked .checked .given .1) in
+    length-right measured ∙ ap (λ (s : Settings). level-length (s .deepest)) (sym same)
 
 same-length-4 : tie.Need-same-length-4
 same-length-4 c = search needs
@@ -94,16 +105,14 @@ same-length-5 c = search needs
 
 returns-4 : tie.Need-returns-4
 returns-4 c =
-    let after-lay-levels = c .before .before in
-    let after-free-slots = after-lay-levels .before .before .before .before in
-    let after-slot-count = after-free-slots .before .before in
-    let else-2 = after-slot-count .before .before in
-    let after-level-length = else-2 .before in
-    let after-checked = after-level-length .before .before in
-    let after-new = after-checked .before .before in
-    let else-1 = after-new .before in
-    let after-entries-fit = else-1 .before in
-    let checked = sym (after-new .new .ensures) ∙ after-checked .checked .given .1 in rw (after-free-slots .free-slots .ensures, after-lay-levels .lay-levels .ensures, accepted-same _ _ checked, after-slot-count .slot-count .ensures) (sym (made-accepted _ _ _ (holds (after-entries-fit .entries-fit .ensures) (else-1 .if1 .left)) (accepted-settings _ _ checked) (else-2 .if2 .left ∙ after-level-length .level-length .ensures)))
+    let levels-laid = c .before .before in
+    let slots-freed = levels-laid .before .before .before .before in
+    let counted = slots-freed .before .before in
+    let measured = counted .before .before in
+    let checked = accepted measured in
+    let same = accepted-same _ _ (sym (checked .before .before .new .ensures) ∙ checked .checked .given .1) in
+    rw (slots-freed .free-slots .ensures, levels-laid .lay-levels .ensures, same, counted .slot-count .ensures)
+    (sym (made-accepted _ _ _ (entries-right (fitting checked)) (settings-right checked) (length-right measured)))
 
 pub make-spec : {M : Type 1} → statement M
 make-spec =

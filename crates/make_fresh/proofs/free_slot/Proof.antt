@@ -1,4 +1,4 @@
--- Its one test tells the last slot, which ends the chain, from the others.
+-- `free_slot`: its one test tells the last slot, which ends the chain, from the others.
 use borrow.Author.Tests.{eq-eqb, ne-eqb}
 use native.Mathlib.Omega.{arith}
 use borrow.Author.Needs.{needs}
@@ -13,9 +13,9 @@ same-length c = search needs
 
 returns : tie.Need-returns
 returns c =
-    let after-set-free = c .before .before in
-    let entry = after-set-free .before .before .before .before in
-    rw (eq-eqb (entry .args .slot) (entry .args .slots) (omega arith)) (after-set-free .set-free .ensures)
+    let written = c .before .before in
+    let entry = written .before .before .before .before in
+    rw (eq-eqb (entry .args .slot) (entry .args .slots) (omega arith)) (written .set-free .ensures)
 
 add-set-free : tie.Need-add-set-free
 add-set-free c = search needs
@@ -28,9 +28,9 @@ same-length-2 c = search needs
 
 returns-2 : tie.Need-returns-2
 returns-2 c =
-    let after-set-free2 = c .before .before in
-    let entry = after-set-free2 .before .before .before .before in
-    rw (ne-eqb (entry .args .slot) (entry .args .slots) (omega arith)) (after-set-free2 .set-free2 .ensures)
+    let written = c .before .before in
+    let entry = written .before .before .before .before in
+    rw (ne-eqb (entry .args .slot) (entry .args .slots) (omega arith)) (written .set-free2 .ensures)
 
 pub free-slot-spec : {M : Type 1} → statement M
 free-slot-spec =

@@ -1,4 +1,4 @@
--- `table_levels::earlier` meets its contract: each test is one of the definition's.
+-- `earlier`: its two tests for 0 are the definition's, and what is left is the lesser of the two.
 use native.Mathlib.Omega.{arith}
 use borrow.Author.Tests.{eq-eqb, ne-eqb}
 use Rattle.table_levels.proofs.earlier.Statement.{statement}

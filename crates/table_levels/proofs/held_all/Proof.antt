@@ -1,9 +1,7 @@
--- The loop keeps: the sum so far, with what the levels from i on hold, is what all hold.
-use mathlib.Core.Path.{_≡_, refl, ap, _∙_}
+-- `held_all`: the loop keeps that the sum so far, with what the levels from i on hold, is what all hold.
 use Prim.Native.Nat.{ℕ, _+_, _-_, _≤_}
 use native.Mathlib.Omega.{arith}
 use Rattle.model.specs.Records.{State}
-use Rattle.tables.specs.Rows.{level-row}
 use Rattle.table_levels.specs.Levels.{RowsAre}
 use Rattle.table_levels.proofs.Adds.{Adds, adds-nothing, adds-one, adds-all, rows-length, rows-deepest}
 use Rattle.table_levels.proofs.held_all.Statement.{statement}

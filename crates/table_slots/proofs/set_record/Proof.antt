@@ -24,11 +24,12 @@ same-length c = search needs
 
 returns : tie.Need-returns
 returns c =
-    let after-set-slot = c .before .before in
-    let entry = after-set-slot .before .before .before in
+    let written = c .before .before in
+    let entry = written .before .before .before in
     let a = entry .args in
     let none : 65536 * a .kind ≡ link-to 0 (a .kind) = omega arith in
-    after-set-slot .set-slot .ensures ∙ ap (λ (k : ℕ). set-slot (a .e .now) (a .slot) (record { link = k; span = span-from (a .lo) (a .hi); tally = a .tally; stamp = a .stamp })) none
+    written .set-slot .ensures
+    ∙ ap (λ (k : ℕ). set-slot (a .e .now) (a .slot) (record { link = k; span = span-from (a .lo) (a .hi); tally = a .tally; stamp = a .stamp })) none
 
 pub set-record-spec : {M : Type 1} → statement M
 set-record-spec =

@@ -1,4 +1,4 @@
--- `table_slots::set_slot` meets its contract: its stores are those of `set-slot`.
+-- `set_slot`: its four stores, in their order, are those of `set-slot`.
 use mathlib.Core.Path.{refl}
 use native.Mathlib.Omega.{arith}
 use borrow.Author.Needs.{needs}
