@@ -81,7 +81,7 @@ module _ (n : ℕ) (s : Settings) (low : 1 ≤ n) (high : n ≤ 65535) (ok : all
   -- 'Full' comes only when every slot holds a different live docket and the put's is not among them, and then always.
   pub full-exactly : (cs : List (Call ℕ)) (t k a : ℕ) → k ≤ 65535 → bad-clock t (clock-of (tables-after n s cs .entries)) ≡ false
       → (call-tables (tables-after n s cs) (record { clock = t; op = written (put k a) }) .answer .refusal ≡ 7)
-        ↔ SlotsLive n k (merged-tables (tables-after n s cs))
+      ↔ SlotsLive n k (merged-tables (tables-after n s cs))
   full-exactly = made.full-exactly n s low high ok
 
   -- A delete of all dockets is accepted at every clock that is not refused.
@@ -97,7 +97,7 @@ module _ (n : ℕ) (s : Settings) (low : 1 ≤ n) (high : n ≤ 65535) (ok : all
   -- So do scans: count, 'more', the next docket and every row.
   pub scans-as-map : (cs : List (Call ℕ)) (lo hi : ℕ) (rows : List Row) → lo ≤ hi → hi ≤ 65535
       → scan-tables (tables-after n s cs .entries) (tables-after n s cs .levels) lo hi rows
-        ≡ filled (scan (get (map-run n no-rows cs .rows)) lo hi (length rows)) rows
+      ≡ filled (scan (get (map-run n no-rows cs .rows)) lo hi (length rows)) rows
   scans-as-map = made.scans-as-map n s low high ok
 
   -- Calls are refused as by a map of as many places; merges and purged are those of document 01's steps.

@@ -162,7 +162,7 @@ module _ {g : Store} {e l : List ℕ} (laid : Laid g e l) where
           let i : ℕ = p .settings .deepest in
           let v : model.Level ℕ ℕ = record { points = map (overwrite k a (g .time)) (level i p .points); ranges = level i p .ranges; owed = level i p .owed } in
           let same : row-of-level v ≡ row-of-level (level i p) =
-                  rw (overwritten-slot k a (g .time) (level i p .points), length-map (level i p .points) (overwrite k a (g .time))) in
+          rw (overwritten-slot k a (g .time) (level i p .points), length-map (level i p .points) (overwrite k a (g .time))) in
           record {
             laid = level-back laid i v (p .free) (o .held) (acted-formed (put k a)) (laid .levels ∙ sym (words-stay p (p .free) i v same));
             done-is = o .found-is;
@@ -216,7 +216,7 @@ module _ {g : Store} {e l : List ℕ} (laid : Laid g e l) where
       wiped-row =
           let r≡ : r ≡ level-of deepest-level = row-is laid (g .state .settings .deepest) (omega arith) (deepest-row deep row) in
           let gone : m .gone ≡ length (select goes (deepest-level .points)) =
-                  s .counts ∙ ap length gone≡ ∙ length-map (select goes (deepest-level .points)) point-cell in
+          s .counts ∙ ap length gone≡ ∙ length-map (select goes (deepest-level .points)) point-cell in
           words-are (row-of-level wiped) (s .head-is ∙ ap head left≡) (ap (λ (x : Level). x .ranges) r≡)
           (omega (arith, ap (λ (x : Level). x .held) r≡, length-select goes (deepest-level .points))) (ap (λ (x : Level). x .owed) r≡)
 

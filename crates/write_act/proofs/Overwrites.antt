@@ -76,7 +76,7 @@ module _ {g : acting.Points} {e : List ℕ} {first : ℕ} (h : PointsHeld g e fi
             let row : slot-at (rewritten-words e x a t) x ≡ cell-slot (head cs) (point-cell (written-over a t (n .point))) =
             slot-same e x _ (omega (arith, at-place .1, h .held .holds .room)) ∙ ap (with-value a t) (at-place .2)
             ∙ ap (λ (kind : ℕ).
-                cell-slot (head cs) (record { slot = x; kind = kind; span = span-from (n .point .key) (n .point .key); tally = a; stamp = t })) put≡ in
+            cell-slot (head cs) (record { slot = x; kind = kind; span = span-from (n .point .key) (n .point .key); tally = a; stamp = t })) put≡ in
             rw (overwritten k a t (g .points) n, append-map point-cell (n .before) (written-over a t (n .point) ∷ n .after))
             (rewritten-first (g .slots) (g .clock) (g .free) (map point-cell (n .before)) (point-cell (n .point))
             (point-cell (written-over a t (n .point))) cs (g .others) e (rewritten-words e x a t) here refl (length-set-slot e x _)

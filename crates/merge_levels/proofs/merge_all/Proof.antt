@@ -93,10 +93,10 @@ loop-less c = search needs
 
 loop-again : tie.Need-loop-again Inv-loop μ-loop
 loop-again c = (
-      search needs,
-      search needs,
-      λ g laid. reached-next merge-counts (reached (merged c) g laid) (in-turn (tested (merged c)) g laid) (done (merged c) g laid),
-    )
+  search needs,
+  search needs,
+  λ g laid. reached-next merge-counts (reached (merged c) g laid) (in-turn (tested (merged c)) g laid) (done (merged c) g laid),
+)
 
 same-length : tie.Need-same-length Inv-loop μ-loop
 same-length c = search needs

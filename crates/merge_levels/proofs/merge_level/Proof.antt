@@ -10,7 +10,8 @@ use Rattle.tables.specs.Rows.{InRows}
 use Rattle.tables.proofs.Rows.{length-set-row}
 use Rattle.merge_join.specs.Joining.{LevelsHeld, Joined}
 use Rattle.merge_levels.specs.Laid.{Store, Laid, Worked}
-use Rattle.merge_levels.proofs.Pair.{pair, pair-held, rows-in, shallow, next-deepest, points-small, ranges-small, held-small, merged-worked, counts-none, counts-one}
+use Rattle.merge_levels.proofs.Pair.{pair, pair-held, rows-in, shallow, next-deepest}
+use Rattle.merge_levels.proofs.Pair.{points-small, ranges-small, held-small, merged-worked, counts-none, counts-one}
 use Rattle.merge_levels.proofs.merge_level.Statement.{statement}
 use Rattle.merge_levels.proofs.merge_level.Tie as tie
 
@@ -75,7 +76,7 @@ join-requires c κs =
 -- And it has joined them.
 pair-joined : (c : tie.After-join) (g : Store) → AtEntry (entry (c .before)) g
     → Joined (eqb (suc (entry (c .before) .args .i)) (g .state .settings .deepest)) (pair g (entry (c .before) .args .i))
-        (c .join .last .0) (c .join .result)
+    (c .join .last .0) (c .join .result)
 pair-joined c g h =
     let a = entry (c .before) .args in
     let deepest = next-deepest g (a .e .now) (a .l .now) (h .0) (a .i) (h .1) _ (c .before .before .deepest-of .ensures) in

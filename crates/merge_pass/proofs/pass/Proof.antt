@@ -87,7 +87,7 @@ clock-of c = entry (turn c) .args .clock
 done : (c : tie.After-pass-level Inv-loop μ-loop) (g : Store) (goal : Work ℕ ℕ) → g .time ≡ clock-of c → turn c .loop .i < g .state .settings .deepest
     → (w : Reached (pass-level (clock-of c)) goal g (turn c .loop .e) (turn c .loop .l) (turn c .loop .merges) (turn c .loop .i))
     → Worked (reached-store w) (pass-level (clock-of c) (turn c .loop .i) (begin (w .work .state)))
-        (c .pass-level .last .0) (c .pass-level .last .1 .0) (c .pass-level .result)
+    (c .pass-level .last .0) (c .pass-level .last .1 .0) (c .pass-level .result)
 done c g goal now high w = c .pass-level .ensures (reached-store w) (w .worked .laid) now (turn c .loop .inv .2) (reached-level w high)
 
 -- The level of a turn is one of the first six, and there are no more merges than levels.

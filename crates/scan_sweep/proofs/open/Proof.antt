@@ -90,8 +90,19 @@ seek-requires c κs =
 opens : (e l : List ℕ) (lo hi levels : ℕ) (heads : Heads) (ranges : List ℕ) → levels ≡ settings-of l .deepest + 1
     → heads ≡ opened-heads e l lo levels → ranges ≡ opened-ranges l levels
     → record {
-        heads = heads; ranges = ranges; levels = levels; cover = 0; fence = 0; from = lo; hi = hi; going = 1; live = 0; key = 0; value = 0; stamp = 0
-      } ≡ opened e l lo hi
+      heads = heads;
+      ranges = ranges;
+      levels = levels;
+      cover = 0;
+      fence = 0;
+      from = lo;
+      hi = hi;
+      going = 1;
+      live = 0;
+      key = 0;
+      value = 0;
+      stamp = 0;
+    } ≡ opened e l lo hi
 opens e l lo hi levels heads ranges n h r = rw (h, r, n)
 
 head-requires : tie.Need-head-requires Inv-loop μ-loop

@@ -4,7 +4,8 @@ use native.Mathlib.Omega.{arith}
 use mathlib.Core.List.{List, _∷_, map}
 use Rattle.tables.specs.Placed.{Cell, point-cell, range-cell}
 use Rattle.write_enter.specs.Entering.{Entry}
-use Rattle.write_enter.proofs.Entries.{to-take, to-splice, slot-asked, chains-asked, kept-points, buffer-points, points-asked, points-head, points-count, point-room}
+use Rattle.write_enter.proofs.Entries.{kept-points, buffer-points, points-asked, points-head, points-count, point-room}
+use Rattle.write_enter.proofs.Entries.{to-take, to-splice, slot-asked, chains-asked}
 use Rattle.write_enter.proofs.Entered.{buffer-held, held-few, points-fewer, point-entered}
 use Rattle.write_enter.proofs.enter_point.Statement.{statement}
 use Rattle.write_enter.proofs.enter_point.Tie as tie

@@ -4,7 +4,8 @@ use native.Mathlib.Omega.{arith}
 use mathlib.Core.List.{List, _∷_, map}
 use Rattle.tables.specs.Placed.{Cell, point-cell, range-cell}
 use Rattle.write_enter.specs.Entering.{Entry}
-use Rattle.write_enter.proofs.Entries.{kept-points, kept-ranges, buffer-points, buffer-ranges, points-asked, points-head, points-count, ranges-asked, ranges-head, ranges-count, range-room, to-take, to-splice, slot-asked, chains-asked}
+use Rattle.write_enter.proofs.Entries.{kept-points, buffer-points, points-asked, points-head, points-count, to-take, to-splice, slot-asked, chains-asked}
+use Rattle.write_enter.proofs.Entries.{kept-ranges, buffer-ranges, ranges-asked, ranges-head, ranges-count, range-room}
 use Rattle.write_enter.proofs.Entered.{buffer-held, held-few, points-fewer, ranges-fewer, range-entered}
 use Rattle.write_enter.proofs.enter_range.Statement.{statement}
 use Rattle.write_enter.proofs.enter_range.Tie as tie

@@ -37,11 +37,10 @@ set-record-requires c κs =
     let next = unchained .before in
     let e = entry (first-read next) .args .e .now in
     let fits = entry (first-read next) .pre .has in
-    let same = length-set-slot e 0 (with-link (next .next-of .result) (slot-at e 0)) in
-    (omega (arith, first-in (first-read next), ap length (unchained .set-first-free .ensures), same), (
-      omega (arith, fits .kind-fits),
-      (omega (arith, fits .lo-fits), omega (arith, fits .hi-fits)),
-    ))
+    let same = length-set-slot e 0 (with-link (next .next-of .result) (slot-at e 0)) in (
+      omega (arith, first-in (first-read next), ap length (unchained .set-first-free .ensures), same),
+      (omega (arith, fits .kind-fits), (omega (arith, fits .lo-fits), omega (arith, fits .hi-fits))),
+    )
 
 same-length : tie.Need-same-length
 same-length c = search needs
