@@ -80,7 +80,8 @@ module _ (n : ℕ) (s : Settings) (low : 1 ≤ n) (high : n ≤ 65535) (ok : all
 
   -- 'Full' comes only when every slot holds a different live docket and the put's is not among them, and then always.
   pub full-exactly : (cs : List (Call ℕ)) (t k a : ℕ) → k ≤ 65535 → bad-clock t (clock-of (tables-after n s cs .entries)) ≡ false
-      → (call-tables (tables-after n s cs) (record { clock = t; op = written (put k a) }) .answer .refusal ≡ 7) ↔ SlotsLive n k (merged-tables (tables-after n s cs))
+      → (call-tables (tables-after n s cs) (record { clock = t; op = written (put k a) }) .answer .refusal ≡ 7)
+      ↔ SlotsLive n k (merged-tables (tables-after n s cs))
   full-exactly = made.full-exactly n s low high ok
 
   -- A delete of all dockets is accepted at every clock that is not refused.
@@ -95,7 +96,8 @@ module _ (n : ℕ) (s : Settings) (low : 1 ≤ n) (high : n ≤ 65535) (ok : all
 
   -- So do scans: count, 'more', the next docket and every row.
   pub scans-as-map : (cs : List (Call ℕ)) (lo hi : ℕ) (rows : List Row) → lo ≤ hi → hi ≤ 65535
-      → scan-tables (tables-after n s cs .entries) (tables-after n s cs .levels) lo hi rows ≡ filled (scan (get (map-run n no-rows cs .rows)) lo hi (length rows)) rows
+      → scan-tables (tables-after n s cs .entries) (tables-after n s cs .levels) lo hi rows
+      ≡ filled (scan (get (map-run n no-rows cs .rows)) lo hi (length rows)) rows
   scans-as-map = made.scans-as-map n s low high ok
 
   -- Calls are refused as by a map of as many places; merges and purged are those of document 01's steps.
@@ -106,9 +108,11 @@ module _ (n : ℕ) (s : Settings) (low : 1 ≤ n) (high : n ≤ 65535) (ok : all
   answers-as-steps = made.answers-as-steps n s low high ok
 
   -- What a level owes: "the earliest clock of any delete that came into the level, itself or through merges, since the level was last emptied; 0 if none".
-  pub owed-is-earliest : (cs : List (Call ℕ)) (i : ℕ) → i < s .deepest → level-row (tables-after n s cs .levels) i .owed ≡ earliest (came (history (slotless n s) cs) i)
+  pub owed-is-earliest : (cs : List (Call ℕ)) (i : ℕ) → i < s .deepest
+      → level-row (tables-after n s cs .levels) i .owed ≡ earliest (came (history (slotless n s) cs) i)
   owed-is-earliest = made.owed-is-earliest n s low high ok
 
   -- DEMAND 3: had that put carried any other tally, every word of both tables would be the same. Settings and list alone decide the premises.
-  pub erased-leaves-nothing : (cs : List (Call ℕ)) (i j k a v : ℕ) → Erased (slotless n s) cs i j k a → tables-after n s (retally i k v cs) ≡ tables-after n s cs
+  pub erased-leaves-nothing : (cs : List (Call ℕ)) (i j k a v : ℕ) → Erased (slotless n s) cs i j k a
+      → tables-after n s (retally i k v cs) ≡ tables-after n s cs
   erased-leaves-nothing = made.erased n s low high ok

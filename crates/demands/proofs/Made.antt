@@ -118,7 +118,8 @@ module _ (n : ℕ) (s : Settings) (low : 1 ≤ n) (high : n ≤ 65535) (ok : all
   scans-as-map cs lo hi rows order high =
       rw (runs cs)
       (scanned-words n (run (fresh s (upto n)) cs) lo hi rows (formed cs) order high
-      ∙ ap (λ found. filled found rows) (model.scans-as-map s ok (upto n) cs lo hi (length rows) ∙ ap (λ m. scan (get (map-run m no-rows cs .rows)) lo hi (length rows)) (length-upto n)))
+      ∙ ap (λ found. filled found rows)
+      (model.scans-as-map s ok (upto n) cs lo hi (length rows) ∙ ap (λ m. scan (get (map-run m no-rows cs .rows)) lo hi (length rows)) (length-upto n)))
 
   answers-of-words : (cs : List (Call ℕ)) → answers-tables (made-tables n s) cs ≡ answers (fresh s (upto n)) cs
   answers-of-words cs = rw made-words (answers-words n (fresh s (upto n)) cs (fresh-formed n s low high ok))
@@ -127,7 +128,8 @@ module _ (n : ℕ) (s : Settings) (low : 1 ≤ n) (high : n ≤ 65535) (ok : all
   answers-as-steps cs = answers-of-words cs ∙ model.answers-without-slots s ok (upto n) cs ∙ ap (λ x. answers (slotless x s) cs) (length-upto n)
 
   -- "Owed is the earliest clock of any delete that came into the level, itself or through merges, since the level was last emptied; 0 if none."
-  pub owed-is-earliest : (cs : List (Call ℕ)) (i : ℕ) → i < s .deepest → level-row (tables-after n s cs .levels) i .owed ≡ earliest (came (history (slotless n s) cs) i)
+  pub owed-is-earliest : (cs : List (Call ℕ)) (i : ℕ) → i < s .deepest
+      → level-row (tables-after n s cs .levels) i .owed ≡ earliest (came (history (slotless n s) cs) i)
   unfolding fresh
   owed-is-earliest cs i below =
       let deep : 0 < s .deepest = omega (arith, allowed-bounds s ok .deepest-low) in
@@ -145,4 +147,5 @@ module _ (n : ℕ) (s : Settings) (low : 1 ≤ n) (high : n ≤ 65535) (ok : all
       → tables-after n s (retally i k v cs) ≡ tables-after n s cs
   erased cs i j k a v e =
       runs (retally i k v cs)
-      ∙ ap (words n) (model.erased-leaves-nothing s ok (upto n) cs i j k a v (subst (λ x. Erased (slotless x s) cs i j k a) (sym (length-upto n)) e)) ∙ sym (runs cs)
+      ∙ ap (words n) (model.erased-leaves-nothing s ok (upto n) cs i j k a v (subst (λ x. Erased (slotless x s) cs i j k a) (sym (length-upto n)) e))
+      ∙ sym (runs cs)

@@ -27,6 +27,7 @@ merged-words i p deep =
     let v : Row = row-of-level (merged-level i p) in
     rw one
     (ap (level-table (p .settings))
-    (sym (set-map row-of-level (set (p .levels) i empty) (suc i) (merged-level i p)) ∙ ap (λ rs. set rs (suc i) v) (sym (set-map row-of-level (p .levels) i empty)))
+    (sym (set-map row-of-level (set (p .levels) i empty) (suc i) (merged-level i p))
+    ∙ ap (λ rs. set rs (suc i) v) (sym (set-map row-of-level (p .levels) i empty)))
     ∙ level-table-set (p .settings) (set rows i no-row) (suc i) v (omega (arith, length-set rows i no-row, length-map (p .levels) row-of-level))
     ∙ ap (λ ws. set-row ws (suc i) v) (level-table-set (p .settings) rows i no-row (omega (arith, length-map (p .levels) row-of-level))))

@@ -27,7 +27,8 @@ module _ (g : Store) (e l : List ℕ) where
   unfolding pass-buffer
   buffer-stays q laid = unmerged (buffer-due (g .state)) 0 g e l q laid
 
-  pub buffer-merged : {merges : ℕ} → buffer-due (g .state) ≡ true → Worked g (merge-level 0 (begin (g .state))) e l merges → Worked g (pass-buffer (begin (g .state))) e l merges
+  pub buffer-merged : {merges : ℕ} → buffer-due (g .state) ≡ true → Worked g (merge-level 0 (begin (g .state))) e l merges
+      → Worked g (pass-buffer (begin (g .state))) e l merges
   unfolding pass-buffer
   buffer-merged q w = merged (buffer-due (g .state)) 0 g e l q w
 

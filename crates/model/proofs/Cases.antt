@@ -14,7 +14,9 @@ use Rattle.model.specs.Calls.{prepared, finish, step, run, answers}
 use Rattle.model.specs.Cases.{settings, CaseTable, NearMissTable}
 
 pub cases : CaseTable
-unfolding any select covers sum merge iterate power capacity limit fresh later merged settled joined freed single merge-state merge-level merge-all enter-at enter set-points wipe act-deepest crowded make-room full write no-slot buffer-due due pass-buffer pass-level pass still-due find lookup prepared finish step run answers
+unfolding any select covers sum merge iterate power capacity limit fresh later merged settled joined freed single merge-state merge-level merge-all enter-at
+    enter set-points wipe act-deepest crowded make-room full write no-slot buffer-due due pass-buffer pass-level pass still-due find lookup prepared finish
+    step run answers
 cases = record {
   limits-3-2-9 = refl;
   limits-4-4-100 = refl;
@@ -32,7 +34,9 @@ cases = record {
 }
 
 pub near-misses : NearMissTable
-unfolding any select covers sum merge iterate power capacity limit fresh later merged settled joined freed single merge-state merge-level merge-all enter-at enter set-points wipe act-deepest crowded make-room full write no-slot buffer-due due pass-buffer pass-level pass still-due live-from scan find lookup prepared finish step run answers
+unfolding any select covers sum merge iterate power capacity limit fresh later merged settled joined freed single merge-state merge-level merge-all enter-at
+    enter set-points wipe act-deepest crowded make-room full write no-slot buffer-due due pass-buffer pass-level pass still-due live-from scan find lookup
+    prepared finish step run answers
 near-misses = record {
   owed-outlives-the-delete = refl;
   term-does-not-restart = refl;

@@ -145,7 +145,8 @@ module _ {S A : Type 0} (k : ℕ) (s : State S (Mark A)) (c : Call (Mark A)) (w 
       later : full (c .clock) w s ≡ false → pass-merges s c || merged-in (step s c .state) cs ≡ true → Fated k (c .clock) (run (step s c .state) cs)
       later a g =
           let p : Sinking k (c .clock) 0 (prepared (c .clock) (c .op) s .state) = rw prepared-write (entered-sunk a) in
+          let begun : Work S (Mark A) = prepared (c .clock) (c .op) s in
           by-cases (pass-merges s c)
           (λ b. run-fated k (c .clock) (step s c .state) cs q (rw (ends .ends)
-          (unfold accepted-outcome worked pass-merges in pass-fated k (c .clock) c quiet (prepared (c .clock) (c .op) s) (p .0) (merged-below k (c .clock) c quiet (prepared (c .clock) (c .op) s) b p))))
+          (unfold accepted-outcome worked pass-merges in pass-fated k (c .clock) c quiet begun (p .0) (merged-below k (c .clock) c quiet begun b p))))
           (λ b. run-merged k (c .clock) (step s c .state) cs q (rw (ends .ends) (sunk p)) (or-second (pass-merges s c) _ g b))

@@ -155,7 +155,8 @@ module _ {S A : Type 0} (k d : ℕ) where
       before : (op : Op (Mark A)) → c .op ≡ op → merges-before (c .clock) op s ≡ true → Fated k d (accepted-outcome s c .state)
       before (written w) e b = clean-fated _ (step-no-mark s c q (rw e (unfold prepared in crowded-erases c q w e s b p)))
       before flush e b = unfold accepted-outcome worked in pass-fated c q (prepared (c .clock) (c .op) s) (flushed .0)
-          (pass-buffer-keeps (Sinking k d 1) (sinking-kept k d 1 c q .deep) (sinking-kept k d 1 c q .merging) (prepared (c .clock) (c .op) s .state .settings) (prepared (c .clock) (c .op) s) (flushed, refl) .0)
+          (pass-buffer-keeps (Sinking k d 1) (sinking-kept k d 1 c q .deep) (sinking-kept k d 1 c q .merging)
+          (prepared (c .clock) (c .op) s .state .settings) (prepared (c .clock) (c .op) s) (flushed, refl) .0)
         where
           flushed : Sinking k d 1 (prepared (c .clock) (c .op) s .state)
           flushed = rw e (unfold prepared in advance k d (s .settings) 0 (begin s) (omega (arith, p .0 .deep)) (record { here = p; same = refl }) .here)

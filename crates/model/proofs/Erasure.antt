@@ -137,7 +137,9 @@ module _ {S A : Type 0} where
       let none : Call (Mark A) = record { clock = 0; op = tick } in
       erased-map (λ x. x) (read a) ms (mark i k cs) i j k marked (map-write plain (h .write))
       (ap (λ (x : Call (Mark A)). x .op) (getD-set-same xs i c none inside))
-      (ap (λ (x : Call (Mark A)). x .op) (getD-set-other xs i j c none (omega (arith, h .after)) ∙ List·getD-map (map-call plain) cs j (record { clock = 0; op = tick })) ∙ ap (map-op plain) (h .is-write))
+      (ap (λ (x : Call (Mark A)). x .op)
+      (getD-set-other xs i j c none (omega (arith, h .after)) ∙ List·getD-map (map-call plain) cs j (record { clock = 0; op = tick }))
+      ∙ ap (map-op plain) (h .is-write))
       (rw (← e, mark-reads i k a cs, retally-own i k a cs (h .is-put)) h)
 
   pub erasure : (settings : Settings) (slots : List S) (cs : List (Call A)) (i j k : ℕ) (a v : A) → allowed settings ≡ true

@@ -134,4 +134,9 @@ module _ {S A : Type 0} where
 
   pub fresh-formed : (settings : Settings) (slots : List S) → allowed settings ≡ true → Formed (fresh {A = A} settings slots)
   unfolding fresh
-  fresh-formed settings slots h = record { deep = allowed-bounds settings h .deepest-low; wide = allowed-bounds settings h .ratio-low; size = length-replicate (suc (settings .deepest)) empty; ordered = all-replicate Ordered (suc (settings .deepest)) empty tt }
+  fresh-formed settings slots h = record {
+    deep = allowed-bounds settings h .deepest-low;
+    wide = allowed-bounds settings h .ratio-low;
+    size = length-replicate (suc (settings .deepest)) empty;
+    ordered = all-replicate Ordered (suc (settings .deepest)) empty tt;
+  }

@@ -42,7 +42,9 @@ module _ {S A : Type 0} where
     where
       refuted : (b : Bool) → crowded t w s ≡ b → none (release (displaced t w (cond b (merge-all s) (begin s) .state)) (cond b (merge-all s) (begin s) .state .free)) ≡ true
           → none (release (displaced t w (make-room t w s .state)) (make-room t w s .state .free)) ≡ false
-      refuted true c n = absurd (true≢false (sym ((none-release (displaced t w (merge-all s .state)) (merge-all s .state .free) n) .1) ∙ and-second-false (crowded t w s) (none (merge-all s .state .free)) h c))
+      refuted true c n =
+          let e = none-release (displaced t w (merge-all s .state)) (merge-all s .state .free) n in
+          absurd (true≢false (sym (e .1) ∙ and-second-false (crowded t w s) (none (merge-all s .state .free)) h c))
       refuted false c n =
           let e = none-release (displaced t w s) (s .free) n in
           absurd (true≢false (sym (and-intro (none (s .free)) (none (displaced t w s)) (e .1) (e .0)) ∙ c))

@@ -26,7 +26,9 @@ calls v t = P 1 5 v ∷ P 1 6 60 ∷ P 1 7 70 ∷ D 2 5 ∷ T t ∷ []
 
 -- At 6 the premises hold: the put stands at place 0, the delete at place 3.
 pub sample-premises : (v : ℕ) → Erased small (calls v 6) 0 3 5 v
-unfolding any select covers sum merge iterate power capacity limit fresh later merged settled joined freed single merge-state merge-level merge-all enter-at enter set-points wipe act-deepest crowded make-room full write no-slot buffer-due due pass-buffer pass-level pass still-due prepared finish step run accepted pass-merges merges-buffer merged-in
+unfolding any select covers sum merge iterate power capacity limit fresh later merged settled joined freed single merge-state merge-level merge-all enter-at
+    enter set-points wipe act-deepest crowded make-room full write no-slot buffer-due due pass-buffer pass-level pass still-due prepared finish step run
+    accepted pass-merges merges-buffer merged-in
 sample-premises v = record
     { is-put = refl; after = lit< tt; write = delete 5; is-write = refl; covers = refl; accept = refl; fate = refl; term = lit≤ tt }
 
@@ -47,7 +49,9 @@ tallies s = sum tally (all-points (s .levels))
 
 -- At 5, one tick short, the tally still stands in level 2.
 pub sample-too-early : run small (calls 50 5) ≢ run small (calls 51 5)
-unfolding tallies any select covers sum merge iterate power capacity limit fresh later merged settled joined freed single merge-state merge-level merge-all enter-at enter set-points wipe act-deepest crowded make-room full write no-slot buffer-due due pass-buffer pass-level pass still-due prepared finish step run
+unfolding tallies any select covers sum merge iterate power capacity limit fresh later merged settled joined freed single merge-state merge-level merge-all
+    enter-at enter set-points wipe act-deepest crowded make-room full write no-slot buffer-due due pass-buffer pass-level pass still-due prepared finish step
+    run
 sample-too-early e = differ (ap tallies e)
   where
     differ : _≡_ {A = ℕ} 180 181 → ⊥

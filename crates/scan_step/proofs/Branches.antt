@@ -24,7 +24,8 @@ module _ (e : List ℕ) (m : Sweep) where
       gone-delete is kind = rw (le-ltb (next-key m) (m .from) le, is, ne-eqb (kind-of e (m .heads .slot)) 1 kind)
 
       pub gone-found : covered ≡ false → kind-of e (m .heads .slot) ≡ 1
-          → gone e m covered ≡ told (moved m (passed e (m .heads)) (next-key m + 1)) 0 1 (next-key m) (tally-of e (m .heads .slot)) (stamp-of e (m .heads .slot))
+          → gone e m covered ≡ told (moved m (passed e (m .heads)) (next-key m + 1)) 0 1 (next-key m)
+          (tally-of e (m .heads .slot)) (stamp-of e (m .heads .slot))
       gone-found is kind = rw (le-ltb (next-key m) (m .from) le, is, eq-eqb (kind-of e (m .heads .slot)) 1 kind)
 
   pub neared-none : m .hi < next-key m → neared e m ≡ told m 0 0 (m .key) (m .value) (m .stamp)

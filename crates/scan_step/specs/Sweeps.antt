@@ -45,7 +45,20 @@ pub record Sweeping (e : List ℕ) (m : Sweep) : Type 0 where
 
 -- The same to come; the sweep is on its way, or has come to a live docket or to none.
 abbrev pub told : Sweep → ℕ → ℕ → ℕ → ℕ → ℕ → Sweep
-told m going alive key value stamp = record { heads = m .heads; ranges = m .ranges; levels = m .levels; cover = m .cover; fence = m .fence; from = m .from; hi = m .hi; going = going; live = alive; key = key; value = value; stamp = stamp }
+told m going alive key value stamp = record {
+  heads = m .heads;
+  ranges = m .ranges;
+  levels = m .levels;
+  cover = m .cover;
+  fence = m .fence;
+  from = m .from;
+  hi = m .hi;
+  going = going;
+  live = alive;
+  key = key;
+  value = value;
+  stamp = stamp;
+}
 
 -- The same sweep, but for how it stands.
 abbrev pub standing : Sweep → ℕ → Sweep
@@ -53,7 +66,20 @@ standing m going = told m going (m .live) (m .key) (m .value) (m .stamp)
 
 -- On its way with other heads, from another docket on.
 abbrev pub moved : Sweep → Heads → ℕ → Sweep
-moved m heads from = record { heads = heads; ranges = m .ranges; levels = m .levels; cover = m .cover; fence = m .fence; from = from; hi = m .hi; going = 1; live = m .live; key = m .key; value = m .value; stamp = m .stamp }
+moved m heads from = record {
+  heads = heads;
+  ranges = m .ranges;
+  levels = m .levels;
+  cover = m .cover;
+  fence = m .fence;
+  from = from;
+  hi = m .hi;
+  going = 1;
+  live = m .live;
+  key = m .key;
+  value = m .value;
+  stamp = m .stamp;
+}
 
 -- The first record is passed: one of its docket was passed before, or its docket is not live, or is.
 abbrev pub gone : List ℕ → Sweep → Bool → Sweep

@@ -149,8 +149,9 @@ module _ {g : Store} {e l : List ℕ} (laid : Laid g e l) where
       put-kept q =
           let p : State ℕ ℕ = g .state in
           let d : Points = deepest-points g in
-          let same : Held (g .slots) (p .clock) (p .free) (map point-cell (d .points) ∷ d .others) e′ = rw (untouched k a (g .time) (d .points) (sym (o .found-is) ∙ q)) at (o .held) in
-          holds-one (g .slots) (top (p .free) (p .clock)) (map free-cell (p .free) ∷ map point-cell (d .points) ∷ d .others) e′ e (same .once .each) (same .holds)
+          let chains : List (List Cell) = map point-cell (d .points) ∷ d .others in
+          let same : Held (g .slots) (p .clock) (p .free) chains e′ = rw (untouched k a (g .time) (d .points) (sym (o .found-is) ∙ q)) at (o .held) in
+          holds-one (g .slots) (top (p .free) (p .clock)) (map free-cell (p .free) ∷ chains) e′ e (same .once .each) (same .holds)
           (level-out laid (p .settings .deepest) .holds)
 
       -- The slots stay, and so does the row of level L.
@@ -160,7 +161,8 @@ module _ {g : Store} {e l : List ℕ} (laid : Laid g e l) where
           let p : State ℕ ℕ = g .state in
           let i : ℕ = p .settings .deepest in
           let v : model.Level ℕ ℕ = record { points = map (overwrite k a (g .time)) (level i p .points); ranges = level i p .ranges; owed = level i p .owed } in
-          let same : row-of-level v ≡ row-of-level (level i p) = rw (overwritten-slot k a (g .time) (level i p .points), length-map (level i p .points) (overwrite k a (g .time))) in
+          let same : row-of-level v ≡ row-of-level (level i p) =
+          rw (overwritten-slot k a (g .time) (level i p .points), length-map (level i p .points) (overwrite k a (g .time))) in
           record {
             laid = level-back laid i v (p .free) (o .held) (acted-formed (put k a)) (laid .levels ∙ sym (words-stay p (p .free) i v same));
             done-is = o .found-is;
@@ -175,7 +177,8 @@ module _ {g : Store} {e l : List ℕ} (laid : Laid g e l) where
     put-ends (delete k) is one t o = absurd (omega (arith, ap (λ (x : Record). x .kind) is))
     put-ends (delete-range lo hi) is one t o = absurd (omega (arith, ap (λ (x : Record). x .kind) is))
 
-    module _ (v : Write ℕ) {w : Record} (is : w ≡ record-of v) (ne : w .kind ≢ 1) {d : ℕ} (deep : d ≡ settings-of l .deepest) {r : Level} (row : r ≡ level-at l d) {e′ : List ℕ} {m : Cursor}
+    module _ (v : Write ℕ) {w : Record} (is : w ≡ record-of v) (ne : w .kind ≢ 1)
+        {d : ℕ} (deep : d ≡ settings-of l .deepest) {r : Level} (row : r ≡ level-at l d) {e′ : List ℕ} {m : Cursor}
         (s : Sifted (doomed (which.Points (w .lo) (w .hi))) (points-of g (g .state .settings .deepest)) e′ m) where
       -- The row that the code leaves.
       abbrev left-row : Row
@@ -212,7 +215,8 @@ module _ {g : Store} {e l : List ℕ} (laid : Laid g e l) where
       unfolding deepest-level wiped
       wiped-row =
           let r≡ : r ≡ level-of deepest-level = row-is laid (g .state .settings .deepest) (omega arith) (deepest-row deep row) in
-          let gone : m .gone ≡ length (select goes (deepest-level .points)) = s .counts ∙ ap length gone≡ ∙ length-map (select goes (deepest-level .points)) point-cell in
+          let gone : m .gone ≡ length (select goes (deepest-level .points)) =
+          s .counts ∙ ap length gone≡ ∙ length-map (select goes (deepest-level .points)) point-cell in
           words-are (row-of-level wiped) (s .head-is ∙ ap head left≡) (ap (λ (x : Level). x .ranges) r≡)
           (omega (arith, ap (λ (x : Level). x .held) r≡, length-select goes (deepest-level .points))) (ap (λ (x : Level). x .owed) r≡)
 

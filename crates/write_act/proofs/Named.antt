@@ -29,7 +29,8 @@ none-above : (k : ℕ) (p : Point ℕ ℕ) → p .key ≡ k → (ps : List (Poin
 unfolding any
 none-above k p e [] a = refl
 none-above k p e (q ∷ qs) a =
-    or-false-intro (eqb (q .key) k) (names qs k) (ne-eqb (q .key) k (λ r. absurd (omega (arith, ltb-true (p .key) (q .key) (a .0))))) (none-above k p e qs (a .1))
+    or-false-intro (eqb (q .key) k) (names qs k) (ne-eqb (q .key) k (λ r. absurd (omega (arith, ltb-true (p .key) (q .key) (a .0)))))
+    (none-above k p e qs (a .1))
 
 pub find-named : (k : ℕ) (ps : List (Point ℕ ℕ)) → Ascending point-before ps → names ps k ≡ true → Named k ps
 unfolding any
@@ -37,7 +38,15 @@ find-named k [] a h = absurd (false≢true h)
 find-named k (p ∷ ps) a h = by-cases (eqb (p .key) k) here (λ e. there e (find-named k ps (a .1) (or-second (eqb (p .key) k) (names ps k) h e)))
   where
     here : eqb (p .key) k ≡ true → Named k (p ∷ ps)
-    here e = record { before = []; point = p; after = ps; whole = refl; key-is = e; none-before = refl; none-after = none-above k p (eqb-true (p .key) k e) ps (a .0) }
+    here e = record {
+      before = [];
+      point = p;
+      after = ps;
+      whole = refl;
+      key-is = e;
+      none-before = refl;
+      none-after = none-above k p (eqb-true (p .key) k e) ps (a .0);
+    }
 
     there : eqb (p .key) k ≡ false → Named k ps → Named k (p ∷ ps)
     there e n = record {
@@ -59,7 +68,8 @@ first-named k (q ∷ qs) p rs h e = rw (or-false-left (eqb (q .key) k) (names qs
 
 pub named-first : (k : ℕ) (ps : List (Point ℕ ℕ)) (n : Named k ps) → head (map point-cell (select (λ q. eqb (q .key) k) ps)) ≡ n .point .slot
 named-first k ps n =
-    ap (λ (qs : List (Point ℕ ℕ)). head (map point-cell (select (λ q. eqb (q .key) k) qs))) (n .whole) ∙ first-named k (n .before) (n .point) (n .after) (n .none-before) (n .key-is)
+    ap (λ (qs : List (Point ℕ ℕ)). head (map point-cell (select (λ q. eqb (q .key) k) qs))) (n .whole)
+    ∙ first-named k (n .before) (n .point) (n .after) (n .none-before) (n .key-is)
 
 -- A put with this tally and stamp in the point's place.
 abbrev pub written-over : ℕ → ℕ → Point ℕ ℕ → Point ℕ ℕ

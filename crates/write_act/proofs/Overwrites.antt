@@ -66,7 +66,8 @@ module _ {g : acting.Points} {e : List ℕ} {first : ℕ} (h : PointsHeld g e fi
         at-place : Chained (g .slots) e (point-cell (n .point) ∷ map point-cell (n .after))
         at-place = chain-end (g .slots) e (map point-cell (n .before)) (point-cell (n .point) ∷ map point-cell (n .after)) (here .holds .each .1 .0)
 
-        over : (a t : ℕ) → Held (g .slots) (g .clock) (g .free) (map point-cell (map (overwrite k a t) (g .points)) ∷ g .others) (rewritten-words e (n .point .slot) a t)
+        over : (a t : ℕ)
+            → Held (g .slots) (g .clock) (g .free) (map point-cell (map (overwrite k a t) (g .points)) ∷ g .others) (rewritten-words e (n .point .slot) a t)
         over a t =
             let x : ℕ = n .point .slot in
             let cs : List Cell = map point-cell (n .after) in
@@ -74,10 +75,12 @@ module _ {g : acting.Points} {e : List ℕ} {first : ℕ} (h : PointsHeld g e fi
             put-kind (n .point .entry) (all-right (λ p. is-put (p .entry) ≡ true) (n .before) (n .point ∷ n .after) (rw (n .whole) at (h .puts)) .0) in
             let row : slot-at (rewritten-words e x a t) x ≡ cell-slot (head cs) (point-cell (written-over a t (n .point))) =
             slot-same e x _ (omega (arith, at-place .1, h .held .holds .room)) ∙ ap (with-value a t) (at-place .2)
-            ∙ ap (λ (kind : ℕ). cell-slot (head cs) (record { slot = x; kind = kind; span = span-from (n .point .key) (n .point .key); tally = a; stamp = t })) put≡ in
+            ∙ ap (λ (kind : ℕ).
+            cell-slot (head cs) (record { slot = x; kind = kind; span = span-from (n .point .key) (n .point .key); tally = a; stamp = t })) put≡ in
             rw (overwritten k a t (g .points) n, append-map point-cell (n .before) (written-over a t (n .point) ∷ n .after))
-            (rewritten-first (g .slots) (g .clock) (g .free) (map point-cell (n .before)) (point-cell (n .point)) (point-cell (written-over a t (n .point))) cs (g .others) e
-            (rewritten-words e x a t) here refl (length-set-slot e x _) (λ u ne nz. slot-other e x _ u (λ q. ne (sym q))) (slot-other e x _ 0 (omega (arith, at-place .0))) row)
+            (rewritten-first (g .slots) (g .clock) (g .free) (map point-cell (n .before)) (point-cell (n .point))
+            (point-cell (written-over a t (n .point))) cs (g .others) e (rewritten-words e x a t) here refl (length-set-slot e x _)
+            (λ u ne nz. slot-other e x _ u (λ q. ne (sym q))) (slot-other e x _ 0 (omega (arith, at-place .0))) row)
 
         slot-is : s ≡ n .point .slot
         slot-is = s-is ∙ named-first k (g .points) n

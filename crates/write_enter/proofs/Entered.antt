@@ -131,7 +131,8 @@ module _ {g : Entry} {e : List ℕ} {buffer : Level} {clock : ℕ} {w : Record} 
     points-stay = sym (entered-points x (g .time) (g .write) (g .buffer)
         ∙ ap (λ ps. merge point-before ps (kept-points g)) (single-no-point x (g .time) (g .write) kind-ranged))
 
-    pub range-entered : {e′ : List ℕ} {points first gone gone′ owed : ℕ} → points ≡ head (map point-cell (kept-points g)) → gone ≡ length (gone-points g) → gone′ ≡ length (gone-ranges g)
+    pub range-entered : {e′ : List ℕ} {points first gone gone′ owed : ℕ} → points ≡ head (map point-cell (kept-points g))
+        → gone ≡ length (gone-points g) → gone′ ≡ length (gone-ranges g)
         → owed ≡ earlier clock (buffer .owed)
         → Spliced (to-splice h (map range-cell (kept-ranges g)) (map point-cell (kept-points g) ∷ g .others)) e′ first
         → Entered g e′ (record { points = points; ranges = first; held = buffer .held - gone - gone′ + 1; owed = owed })
@@ -142,7 +143,9 @@ module _ {g : Entry} {e : List ℕ} {buffer : Level} {clock : ℕ} {w : Record} 
       free = room h .is;
       held = swapped (g .slots) (g .clock) (room h .rest) (map range-cell (entered .ranges)) (map point-cell (entered .points)) (g .others) e′
           (rw (← ranges-is, ← points-stay) (s .held));
-      buffer-is = row-is (level-of entered) (points≡ ∙ ap (λ (ps : List (model.Point ℕ ℕ)). head (map point-cell ps)) points-stay) (s .head-is ∙ ap head ranges-is)
+      buffer-is =
+          row-is (level-of entered) (points≡ ∙ ap (λ (ps : List (model.Point ℕ ℕ)). head (map point-cell ps)) points-stay)
+          (s .head-is ∙ ap head ranges-is)
           (omega (arith, buffer-held, points-fewer, ranges-fewer, entered-held x (g .time) (g .write) (g .buffer)))
           (owed≡ ∙ ap (λ (k : ℕ). earlier (cond (eqb k 1) 0 clock) (buffer .owed)) (sym ranged) ∙ owed-is);
     }

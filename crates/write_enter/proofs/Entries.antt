@@ -69,10 +69,22 @@ points-free g = release (point-slots (gone-points g)) (g .free)
 
 -- The chains of the two sieves.
 abbrev pub buffer-points : Entry → Chain
-buffer-points g = record { slots = g .slots; clock = g .clock; free = g .free; cells = map point-cell (g .buffer .points); others = map range-cell (g .buffer .ranges) ∷ g .others }
+buffer-points g = record {
+  slots = g .slots;
+  clock = g .clock;
+  free = g .free;
+  cells = map point-cell (g .buffer .points);
+  others = map range-cell (g .buffer .ranges) ∷ g .others;
+}
 
 abbrev pub buffer-ranges : Entry → Chain
-buffer-ranges g = record { slots = g .slots; clock = g .clock; free = points-free g; cells = map range-cell (g .buffer .ranges); others = map point-cell (kept-points g) ∷ g .others }
+buffer-ranges g = record {
+  slots = g .slots;
+  clock = g .clock;
+  free = points-free g;
+  cells = map range-cell (g .buffer .ranges);
+  others = map point-cell (kept-points g) ∷ g .others;
+}
 
 module _ {g : Entry} {e : List ℕ} {buffer : Level} {clock : ℕ} {w : Record} (h : EntryHeld g e buffer clock w) where
   -- The slots that are free when all that goes has gone.

@@ -39,7 +39,8 @@ entry g v = record {
 }
 
 -- What the entry asks for, of the tables of a store.
-pub entry-asked : {g : Store} {e l : List ℕ} {clock : ℕ} {w : Record} {buffer : Level} (v : Write ℕ) → Laid g e l → g .time ≡ clock → w ≡ record-of v → bad-docket (written v) ≡ false
+pub entry-asked : {g : Store} {e l : List ℕ} {clock : ℕ} {w : Record} {buffer : Level} (v : Write ℕ)
+    → Laid g e l → g .time ≡ clock → w ≡ record-of v → bad-docket (written v) ≡ false
     → none (release (displaced clock v (g .state)) (g .state .free)) ≡ false → buffer ≡ level-at l 0 → EntryHeld (entry g v) e buffer clock w
 entry-asked {g} {e} {l} v laid t is d room row = record {
   held = level-out laid 0;
@@ -52,7 +53,8 @@ entry-asked {g} {e} {l} v laid t is d room row = record {
 }
 
 -- The same of a store with room for a write.
-pub entering-asked : {g : Store} {e l : List ℕ} {clock : ℕ} {w : Record} {buffer : Level} (n : Entering g e l clock w) → buffer ≡ level-at l 0 → EntryHeld (entry g (n .write)) e buffer clock w
+pub entering-asked : {g : Store} {e l : List ℕ} {clock : ℕ} {w : Record} {buffer : Level} (n : Entering g e l clock w) → buffer ≡ level-at l 0
+    → EntryHeld (entry g (n .write)) e buffer clock w
 entering-asked n = entry-asked (n .write) (n .laid) (n .time-is) (n .write-is) (n .dockets) (n .room)
 
 module _ {g : Entry} {e : List ℕ} {r : Level} (n : Entered g e r) where
@@ -103,7 +105,8 @@ module _ {g : Store} {e l : List ℕ} (v : Write ℕ) (laid : Laid g e l) (low :
       ∙ sym (words-set p (n .rest) 0 buffer (omega (arith, laid .formed .size)))))
 
 -- The same at the clock of the code.
-pub entry-ends : {g : Store} {e l e′ l′ : List ℕ} {clock : ℕ} {r : Level} (v : Write ℕ) → Laid g e l → 1 ≤ clock → g .time ≡ clock → bad-docket (written v) ≡ false
+pub entry-ends : {g : Store} {e l e′ l′ : List ℕ} {clock : ℕ} {r : Level} (v : Write ℕ)
+    → Laid g e l → 1 ≤ clock → g .time ≡ clock → bad-docket (written v) ≡ false
     → none (release (displaced clock v (g .state)) (g .state .free)) ≡ false → Entered (entry g v) e′ r → l′ ≡ set-row l 0 (row-at r)
     → Laid (at-state g (enter clock v (g .state))) e′ l′
 entry-ends {g} v laid low t d room n words =

@@ -42,7 +42,8 @@ module _ (n : ℕ) (e : List ℕ) where
   unfolding select
   selected-none t [] h = refl
   selected-none t (c ∷ cs) h =
-      cond-elim (λ ds. eqb (head ds) 0 ≡ none ds) (t c) (c ∷ select t cs) (select t cs) (λ p. ne-eqb (c .slot) 0 (λ q. absurd (omega (arith, h .0)))) (λ p. selected-none t cs (h .3))
+      cond-elim (λ ds. eqb (head ds) 0 ≡ none ds) (t c) (c ∷ select t cs) (select t cs)
+      (λ p. ne-eqb (c .slot) 0 (λ q. absurd (omega (arith, h .0)))) (λ p. selected-none t cs (h .3))
 
 module _ {g : Store} {e l : List ℕ} (laid : Laid g e l) (v : Write ℕ) {w : Record} (is : w ≡ record-of v) where
   -- The points and ranges of the buffer that the write would make go.
@@ -52,40 +53,53 @@ module _ {g : Store} {e l : List ℕ} (laid : Laid g e l) (v : Write ℕ) {w : R
   abbrev ranges-gone-of : List (model.Range ℕ)
   ranges-gone-of = select (range-goes (unplaced (g .time) v .ranges)) (level 0 (g .state) .ranges)
 
+  -- The same, in the cells that the code looks for.
+  abbrev point-cells-gone : List Cell
+  point-cells-gone = select (doomed (Points (w .lo) (w .hi))) (map point-cell (level 0 (g .state) .points))
+
+  abbrev range-cells-gone : List Cell
+  range-cells-gone = select (doomed (Range (w .lo) (w .hi))) (map range-cell (level 0 (g .state) .ranges))
+
   -- No free slot, no point and no range that would go, as the code asks each.
   free-none : eqb (first-free e) 0 ≡ none (g .state .free)
   free-none =
       ap (λ (r : Slot). eqb (r .link) 0) (laid .entries .first) ∙ head-none (g .slots) e (map free-cell (g .state .free)) (laid .entries .each .0)
       ∙ none-map free-cell (g .state .free)
 
-  points-none : {s : ℕ} → s ≡ head (select (doomed (Points (w .lo) (w .hi))) (map point-cell (level 0 (g .state) .points))) → eqb s 0 ≡ none (point-slots points-gone-of)
+  points-none : {s : ℕ} → s ≡ head point-cells-gone → eqb s 0 ≡ none (point-slots points-gone-of)
   points-none q =
-      ap (λ (k : ℕ). eqb k 0) q ∙ selected-none (g .slots) e (doomed (Points (w .lo) (w .hi))) (map point-cell (level 0 (g .state) .points)) (level-out laid 0 .holds .each .1 .0)
+      ap (λ (k : ℕ). eqb k 0) q
+      ∙ selected-none (g .slots) e (doomed (Points (w .lo) (w .hi))) (map point-cell (level 0 (g .state) .points)) (level-out laid 0 .holds .each .1 .0)
       ∙ ap none (points-gone tt (g .time) v w is (level 0 (g .state) .points) (laid-formed g e l laid 0 .keys))
       ∙ none-map point-cell points-gone-of ∙ sym (none-map (λ (p : model.Point ℕ ℕ). p .slot) points-gone-of)
 
-  ranges-none : w .kind ≡ 3 → {s : ℕ} → s ≡ head (select (doomed (Range (w .lo) (w .hi))) (map range-cell (level 0 (g .state) .ranges))) → eqb s 0 ≡ none (range-slots ranges-gone-of)
+  ranges-none : w .kind ≡ 3 → {s : ℕ} → s ≡ head range-cells-gone → eqb s 0 ≡ none (range-slots ranges-gone-of)
   ranges-none ranged q =
-      ap (λ (k : ℕ). eqb k 0) q ∙ selected-none (g .slots) e (doomed (Range (w .lo) (w .hi))) (map range-cell (level 0 (g .state) .ranges)) (level-out laid 0 .holds .each .1 .1 .0)
+      ap (λ (k : ℕ). eqb k 0) q
+      ∙ selected-none (g .slots) e (doomed (Range (w .lo) (w .hi))) (map range-cell (level 0 (g .state) .ranges)) (level-out laid 0 .holds .each .1 .1 .0)
       ∙ ap none (ranges-gone tt (g .time) v w is (level 0 (g .state) .ranges) (laid-formed g e l laid 0 .spans) ranged)
       ∙ none-map range-cell ranges-gone-of ∙ sym (none-map (λ (r : model.Range ℕ). r .slot) ranges-gone-of)
 
   -- The three together are the answer.
-  crowded-is : {f p r : Bool} → f ≡ none (g .state .free) → p ≡ none (point-slots points-gone-of) → r ≡ none (range-slots ranges-gone-of) → f && (p && r) ≡ crowded (g .time) v (g .state)
+  crowded-is : {f p r : Bool} → f ≡ none (g .state .free) → p ≡ none (point-slots points-gone-of) → r ≡ none (range-slots ranges-gone-of)
+      → f && (p && r) ≡ crowded (g .time) v (g .state)
   unfolding crowded
   crowded-is a b c = rw (a, b, c) (ap (_&&_ (none (g .state .free))) (sym (none-append (point-slots points-gone-of) (range-slots ranges-gone-of))))
 
   pub free-slot : first-free e ≢ 0 → false ≡ crowded (g .time) v (g .state)
   free-slot nz = crowded-is (sym (ne-eqb (first-free e) 0 nz) ∙ free-none) refl refl
 
-  module _ {s : ℕ} (points : s ≡ head (select (doomed (Points (w .lo) (w .hi))) (map point-cell (level 0 (g .state) .points)))) where
+  module _ {s : ℕ} (points : s ≡ head point-cells-gone) where
     pub point-goes-first : first-free e ≡ 0 → s ≢ 0 → false ≡ crowded (g .time) v (g .state)
     point-goes-first z nz = crowded-is (sym (eq-eqb (first-free e) 0 z) ∙ free-none) (sym (ne-eqb s 0 nz) ∙ points-none points) refl
 
     pub point-crowded : first-free e ≡ 0 → s ≡ 0 → w .kind ≢ 3 → true ≡ crowded (g .time) v (g .state)
-    point-crowded z zs pointed = crowded-is (sym (eq-eqb (first-free e) 0 z) ∙ free-none) (sym (eq-eqb s 0 zs) ∙ points-none points)
-        (sym (ap (λ (qs : List (model.Range ℕ)). none (range-slots qs)) (no-range-gone (g .time) v (level 0 (g .state) .ranges) (λ q. pointed (ap (λ (r : Record). r .kind) is ∙ q)))))
+    point-crowded z zs pointed =
+        let kept = no-range-gone (g .time) v (level 0 (g .state) .ranges) (λ q. pointed (ap (λ (r : Record). r .kind) is ∙ q)) in
+        crowded-is (sym (eq-eqb (first-free e) 0 z) ∙ free-none) (sym (eq-eqb s 0 zs) ∙ points-none points)
+        (sym (ap (λ (qs : List (model.Range ℕ)). none (range-slots qs)) kept))
 
-    pub range-crowded : first-free e ≡ 0 → s ≡ 0 → w .kind ≡ 3 → {s′ : ℕ} → s′ ≡ head (select (doomed (Range (w .lo) (w .hi))) (map range-cell (level 0 (g .state) .ranges)))
+    pub range-crowded : first-free e ≡ 0 → s ≡ 0 → w .kind ≡ 3 → {s′ : ℕ} → s′ ≡ head range-cells-gone
         → eqb s′ 0 ≡ crowded (g .time) v (g .state)
-    range-crowded z zs ranged ranges = crowded-is (sym (eq-eqb (first-free e) 0 z) ∙ free-none) (sym (eq-eqb s 0 zs) ∙ points-none points) (ranges-none ranged ranges)
+    range-crowded z zs ranged ranges =
+        crowded-is (sym (eq-eqb (first-free e) 0 z) ∙ free-none) (sym (eq-eqb s 0 zs) ∙ points-none points) (ranges-none ranged ranges)

@@ -49,7 +49,11 @@ module _ {S : Type 0} (x : S) (t : ℕ) (v : Write ℕ) (w : Record) (is : w ≡
 
   module _ (qs : List (model.Range ℕ)) (spans : All Spanned qs) (ranged : w .kind ≡ 3) where
     pub ranges-gone : select (doomed (Range (w .lo) (w .hi))) (map range-cell qs) ≡ map range-cell (select (range-goes (single x t v .ranges)) qs)
-    ranges-gone = select-map-where range-cell (doomed (Range (w .lo) (w .hi))) (range-goes (single x t v .ranges)) qs (all-weaken Spanned _ (λ q. range-doomed q ranged) qs spans)
+    ranges-gone =
+        select-map-where range-cell (doomed (Range (w .lo) (w .hi))) (range-goes (single x t v .ranges)) qs
+        (all-weaken Spanned _ (λ q. range-doomed q ranged) qs spans)
 
     pub ranges-left : reject (doomed (Range (w .lo) (w .hi))) (map range-cell qs) ≡ map range-cell (reject (range-goes (single x t v .ranges)) qs)
-    ranges-left = reject-map-where range-cell (doomed (Range (w .lo) (w .hi))) (range-goes (single x t v .ranges)) qs (all-weaken Spanned _ (λ q. range-doomed q ranged) qs spans)
+    ranges-left =
+        reject-map-where range-cell (doomed (Range (w .lo) (w .hi))) (range-goes (single x t v .ranges)) qs
+        (all-weaken Spanned _ (λ q. range-doomed q ranged) qs spans)

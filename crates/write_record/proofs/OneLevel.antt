@@ -52,7 +52,8 @@ module _ {g : Store} {e l : List ℕ} (laid : Laid g e l) (i : ℕ) where
   -- A table that holds another level's chains in their place is that of the state with that level at i.
   pub level-back : (v : Level ℕ ℕ) (free : List ℕ) {e′ l′ : List ℕ}
       → Held (g .slots) (g .state .clock) free (map point-cell (v .points) ∷ map range-cell (v .ranges) ∷ level-chains (set (g .state .levels) i empty)) e′
-      → Formed (g .slots) (timed (g .time) (stored (g .state) free (set (g .state .levels) i v))) → l′ ≡ level-words (stored (g .state) free (set (g .state .levels) i v))
+      → Formed (g .slots) (timed (g .time) (stored (g .state) free (set (g .state .levels) i v)))
+      → l′ ≡ level-words (stored (g .state) free (set (g .state .levels) i v))
       → Laid (at-state g (stored (g .state) free (set (g .state .levels) i v))) e′ l′
   level-back v free {e′} h f words = record {
     formed = f;

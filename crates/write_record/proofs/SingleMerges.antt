@@ -35,7 +35,8 @@ merged-no-range u l q = rw q (reject-never (range-goes {R = ℕ} []) (no-range-g
 pub no-range-gone : (t : ℕ) (v : Write ℕ) (qs : List (Range ℕ)) → record-of v .kind ≢ 3 → select (range-goes (unplaced t v .ranges)) qs ≡ []
 no-range-gone t v qs ne = rw (single-no-range (tt {0}) t v ne) (select-never (range-goes {R = Unit {0}} []) (no-range-goes (Unit {0})) qs)
 
-pub gone-by-point : (t : ℕ) (v : Write ℕ) (l : Level ℕ ℕ) → record-of v .kind ≢ 3 → gone (unplaced t v) l ≡ point-slots (select (point-goes (unplaced t v)) (l .points))
+pub gone-by-point : (t : ℕ) (v : Write ℕ) (l : Level ℕ ℕ) → record-of v .kind ≢ 3
+    → gone (unplaced t v) l ≡ point-slots (select (point-goes (unplaced t v)) (l .points))
 gone-by-point t v l ne =
     ap (λ rs. point-slots (select (point-goes (unplaced t v)) (l .points)) ++ range-slots rs) (no-range-gone t v (l .ranges) ne)
     ∙ append-nil (point-slots (select (point-goes (unplaced t v)) (l .points)))
@@ -46,14 +47,17 @@ module _ (x t : ℕ) (v : Write ℕ) (l : Level ℕ ℕ) where
   gone-alike = select-same (point-goes (single x t v)) (point-goes (unplaced t v)) (point-goes-alike x tt t v) (l .points)
 
   left-alike : reject (point-goes (single x t v)) (l .points) ≡ reject (point-goes (unplaced t v)) (l .points)
-  left-alike = select-same (λ p. not (point-goes (single x t v) p)) (λ p. not (point-goes (unplaced t v) p)) (λ p. ap not (point-goes-alike x tt t v p)) (l .points)
+  left-alike =
+      select-same (λ p. not (point-goes (single x t v) p)) (λ p. not (point-goes (unplaced t v) p))
+      (λ p. ap not (point-goes-alike x tt t v p)) (l .points)
 
   ranges-gone-alike : select (range-goes (single x t v .ranges)) (l .ranges) ≡ select (range-goes (unplaced t v .ranges)) (l .ranges)
   ranges-gone-alike = select-same (range-goes (single x t v .ranges)) (range-goes (unplaced t v .ranges)) (range-goes-alike x tt t v) (l .ranges)
 
   ranges-left-alike : reject (range-goes (single x t v .ranges)) (l .ranges) ≡ reject (range-goes (unplaced t v .ranges)) (l .ranges)
   ranges-left-alike =
-      select-same (λ q. not (range-goes (single x t v .ranges) q)) (λ q. not (range-goes (unplaced t v .ranges) q)) (λ q. ap not (range-goes-alike x tt t v q)) (l .ranges)
+      select-same (λ q. not (range-goes (single x t v .ranges) q)) (λ q. not (range-goes (unplaced t v .ranges) q))
+      (λ q. ap not (range-goes-alike x tt t v q)) (l .ranges)
 
   -- The record among the points or the ranges that stay.
   pub entered-points : merged (single x t v) l .points ≡ merge point-before (single x t v .points) (reject (point-goes (unplaced t v)) (l .points))
@@ -67,7 +71,8 @@ module _ (x t : ℕ) (v : Write ℕ) (l : Level ℕ ℕ) where
       ap (λ rs. merge range-before rs (reject (range-goes (single x t v .ranges)) (l .ranges))) (single-later x t v (l .ranges) s)
       ∙ ap (merge range-before (single x t v .ranges)) ranges-left-alike
 
-  pub entered-held : held (merged (single x t v) l) + length (select (point-goes (unplaced t v)) (l .points)) + length (select (range-goes (unplaced t v .ranges)) (l .ranges)) ≡ 1 + held l
+  pub entered-held : held (merged (single x t v) l) + length (select (point-goes (unplaced t v)) (l .points))
+      + length (select (range-goes (unplaced t v .ranges)) (l .ranges)) ≡ 1 + held l
   entered-held = omega (arith, held-merged (single x t v) l, single-held x t v, ap length gone-alike, ap length ranges-gone-alike)
 
   pub entered-owed : merged (single x t v) l .owed ≡ earlier (cond (eqb (record-of v .kind) 1) 0 t) (l .owed)

@@ -30,7 +30,8 @@ module _ {S : Type 0} (x : S) (t : ℕ) where
   single-goes (delete-range lo hi) p = or-false (covers lo hi (p .key))
 
   -- A range goes where it has the same lo and hi as a range delete.
-  pub single-range-goes : (v : Write ℕ) (q : Range ℕ) → record-of v .kind ≡ 3 → range-goes (single x t v .ranges) q ≡ eqb (record-of v .lo) (q .lo) && eqb (record-of v .hi) (q .hi)
+  pub single-range-goes : (v : Write ℕ) (q : Range ℕ) → record-of v .kind ≡ 3
+      → range-goes (single x t v .ranges) q ≡ eqb (record-of v .lo) (q .lo) && eqb (record-of v .hi) (q .hi)
   unfolding single any
   single-range-goes (put k a) q e = absurd (omega arith)
   single-range-goes (delete k) q e = absurd (omega arith)
@@ -40,7 +41,8 @@ module _ {S : Type 0} (x : S) (t : ℕ) where
 pub point-goes-alike : {S : Type 0} (x : ℕ) (y : S) (t : ℕ) (v : Write ℕ) (p : Point ℕ ℕ) → point-goes (single x t v) p ≡ point-goes (single y t v) p
 point-goes-alike x y t v p = single-goes x t v p ∙ sym (single-goes y t v p)
 
-pub range-goes-alike : {S : Type 0} (x : ℕ) (y : S) (t : ℕ) (v : Write ℕ) (q : Range ℕ) → range-goes (single x t v .ranges) q ≡ range-goes (single y t v .ranges) q
+pub range-goes-alike : {S : Type 0} (x : ℕ) (y : S) (t : ℕ) (v : Write ℕ) (q : Range ℕ)
+    → range-goes (single x t v .ranges) q ≡ range-goes (single y t v .ranges) q
 unfolding single any
 range-goes-alike x y t (put k a) q = refl
 range-goes-alike x y t (delete k) q = refl
@@ -94,7 +96,10 @@ pub single-spanned : (x t : ℕ) (v : Write ℕ) → bad-docket (written v) ≡ 
 unfolding single
 single-spanned x t (put k a) d = tt
 single-spanned x t (delete k) d = tt
-single-spanned x t (delete-range lo hi) d = ((ltb-false hi lo (or-false-right (ltb 65535 hi) (ltb hi lo) d), ltb-false 65535 hi (or-false-left (ltb 65535 hi) (ltb hi lo) d)), tt)
+single-spanned x t (delete-range lo hi) d =
+    let ordered = or-false-right (ltb 65535 hi) (ltb hi lo) d in
+    let small = or-false-left (ltb 65535 hi) (ltb hi lo) d in
+    ((ltb-false hi lo ordered, ltb-false 65535 hi small), tt)
 
 -- A range that is stamped no earlier than those below it keeps its stamp.
 later-own : (qs : List (Range ℕ)) (r : Range ℕ) → All (λ q. (1 ≤ q .stamp) × (q .stamp ≤ r .stamp)) qs → later qs r ≡ r
@@ -104,7 +109,8 @@ later-own (q ∷ qs) r a =
     cond-elim (λ z. z ≡ r) (same-range q r) (record { slot = r .slot; lo = r .lo; hi = r .hi; stamp = max (r .stamp) (q .stamp) }) (later qs r)
     (λ p. let own : max (r .stamp) (q .stamp) ≡ r .stamp = omega (arith, a .0 .1) in rw own) (λ p. later-own qs r (a .1))
 
-pub single-later : (x t : ℕ) (v : Write ℕ) (qs : List (Range ℕ)) → All (λ q. (1 ≤ q .stamp) × (q .stamp ≤ t)) qs → map (later qs) (single x t v .ranges) ≡ single x t v .ranges
+pub single-later : (x t : ℕ) (v : Write ℕ) (qs : List (Range ℕ)) → All (λ q. (1 ≤ q .stamp) × (q .stamp ≤ t)) qs
+    → map (later qs) (single x t v .ranges) ≡ single x t v .ranges
 unfolding single
 single-later x t (put k a) qs s = refl
 single-later x t (delete k) qs s = refl

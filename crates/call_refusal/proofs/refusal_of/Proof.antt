@@ -1,4 +1,4 @@
--- `call_refusal::refusal_of`: the tests are asked in the order of the refusals' table, so the first way out is the first refusal that is met.
+-- The tests are asked in the order of the refusals' table, so the first way out is the first refusal that is met.
 use mathlib.Core.Path.{sym, _∙_}
 use native.Mathlib.Omega.{arith}
 use borrow.Author.Needs.{needs}
@@ -37,14 +37,16 @@ returns-3 c =
     let later = c .before .before in
     let asked = later .before .before in
     let a = entry asked .args in
-    refused-early _ _ (a .clock) (a .lo) (a .hi) (asked .docket-refusal .ensures) (later .before .if1 .left) (later .if2 .left) (omega (arith, c .if3 .taken, c .before .clock-of .ensures))
+    refused-early _ _ (a .clock) (a .lo) (a .hi) (asked .docket-refusal .ensures) (later .before .if1 .left) (later .if2 .left)
+    (omega (arith, c .if3 .taken, c .before .clock-of .ensures))
 
 returns-4 : tie.Need-returns-4
 returns-4 c =
     let later = c .before .before in
     let asked = later .before .before in
     let a = entry asked .args in
-    not-refused _ _ (a .clock) (a .lo) (a .hi) (asked .docket-refusal .ensures) (later .before .if1 .left) (later .if2 .left) (omega (arith, c .if3 .left, c .before .clock-of .ensures))
+    not-refused _ _ (a .clock) (a .lo) (a .hi) (asked .docket-refusal .ensures) (later .before .if1 .left) (later .if2 .left)
+    (omega (arith, c .if3 .left, c .before .clock-of .ensures))
 
 pub refusal-of-spec : {M : Type 1} → statement M
 refusal-of-spec = tie.close (tie.spec docket-refusal-requires returns returns-2 clock-of-requires returns-3 returns-4)

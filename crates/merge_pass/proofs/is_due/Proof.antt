@@ -1,4 +1,4 @@
--- `merge_pass::is_due` meets its contract, by what each of its tests tells of the level's row.
+-- Each test tells of the level's row what the model's test asks: too much held, nothing owed, or its deletes at their limit.
 use borrow.Author.Needs.{needs}
 use mathlib.Core.Path.{_≡_, ap, _∙_}
 use Prim.Native.Nat.{_<_, _≤_}
@@ -13,17 +13,14 @@ use Rattle.merge_pass.proofs.is_due.Statement.{statement}
 use Rattle.merge_pass.proofs.is_due.Tie as tie
 
 -- Where the code stands, seen from a later place.
-abbrev after-inner-capacity-of : tie.After-struct-known2 → tie.After-inner-capacity
-after-inner-capacity-of c = c .before .before .before .before .before
+abbrev entry : tie.After-level-at → tie.Start
+entry c = c .before .before .before
 
-abbrev after-level-at-of : tie.After-struct-known2 → tie.After-level-at
-after-level-at-of c = after-inner-capacity-of c .before
+abbrev row-read : tie.Else1 → tie.After-level-at
+row-read c = c .before .before
 
-abbrev after-settings-of-of : tie.Else2 → tie.After-settings-of
-after-settings-of-of c = c .before .before .before .before .before
-
-abbrev entry-of : tie.Else2 → tie.Start
-entry-of c = after-settings-of-of c .before .before
+abbrev within-capacity : tie.Else2 → tie.Else1
+within-capacity c = c .before .before
 
 settings-of-requires : tie.Need-settings-of-requires
 settings-of-requires c κs = search needs
@@ -41,9 +38,6 @@ cast-inner-capacity c = omega (arith, shallow (c .before .before .before))
 inner-capacity-requires : tie.Need-inner-capacity-requires
 inner-capacity-requires c κs = rw (c .before .settings-of .ensures) (c .before .before .before .pre .1 .0)
 
-abbrev entry : tie.After-level-at → tie.Start
-entry c = c .before .before .before
-
 -- What the code has read of the settings and of the level's row.
 capacity-is : (c : tie.After-inner-capacity) → c .inner-capacity .result ≡ capacity (settings-of (entry (c .before) .args .l .now)) (entry (c .before) .args .i)
 capacity-is c = c .inner-capacity .ensures ∙ ap (λ (s : Settings). capacity s (entry (c .before) .args .i)) (c .before .before .settings-of .ensures)
@@ -55,50 +49,48 @@ owed-is : (c : tie.After-level-at) → c .level-at .result .owed ≡ level-row (
 owed-is c = let a = entry c .args in owed-read (c .level-at .result) (a .l .now) (a .i) (c .level-at .ensures)
 
 -- No more than its capacity.
-within : (c : tie.Else1) → level-row (entry (c .before .before) .args .l .now) (entry (c .before .before) .args .i) .held ≤ capacity (settings-of (entry (c .before .before) .args .l .now)) (entry (c .before .before) .args .i)
-within c = omega (arith, c .if1 .left, capacity-is (c .before), held-is (c .before .before))
+within : (c : tie.Else1) → level-row (entry (row-read c) .args .l .now) (entry (row-read c) .args .i) .held
+    ≤ capacity (settings-of (entry (row-read c) .args .l .now)) (entry (row-read c) .args .i)
+within c = omega (arith, c .if1 .left, capacity-is (c .before), held-is (row-read c))
 
 returns : tie.Need-returns
 returns c =
     let a = entry (c .before .before) .args in
-    due-over (settings-of (a .l .now)) (a .clock) (a .i) (level-row (a .l .now) (a .i)) (omega (arith, c .if1 .taken, capacity-is (c .before), held-is (c .before .before)))
+    due-over (settings-of (a .l .now)) (a .clock) (a .i) (level-row (a .l .now) (a .i))
+    (omega (arith, c .if1 .taken, capacity-is (c .before), held-is (c .before .before)))
 
 returns-2 : tie.Need-returns-2
 returns-2 c =
-    let else-1 = c .before .before in
-    let after-level-at = else-1 .before .before in
-    let a = entry (after-level-at) .args in
-    due-owing-none (settings-of (a .l .now)) (a .clock) (a .i) (level-row (a .l .now) (a .i)) (within (else-1)) (omega (arith, c .if2 .taken, owed-is (after-level-at)))
+    let few = c .before .before in
+    let a = entry (row-read few) .args in
+    due-owing-none (settings-of (a .l .now)) (a .clock) (a .i) (level-row (a .l .now) (a .i)) (within few)
+    (omega (arith, c .if2 .taken, owed-is (row-read few)))
 
 cast-inner-limit : tie.Need-cast-inner-limit
-cast-inner-limit c =
-    let at-entry = entry-of c in
-    omega (arith, shallow (at-entry))
+cast-inner-limit c = omega (arith, shallow (entry (row-read (within-capacity c))))
 
 inner-limit-requires : tie.Need-inner-limit-requires
 inner-limit-requires c κs =
-    let after-settings-of = after-settings-of-of c in
-    let at-entry = after-settings-of .before .before in
-    rw (after-settings-of .settings-of .ensures) (at-entry .pre .1 .0)
+    let read = row-read (within-capacity c) in
+    rw (read .before .settings-of .ensures) (entry read .pre .1 .0)
 
 sub-result : tie.Need-sub-result
 sub-result c =
-    let after-level-at = after-level-at-of c in
-    omega (arith, owed-is after-level-at, entry after-level-at .pre .1 .1)
+    let read = row-read (within-capacity (c .before .before)) in
+    omega (arith, owed-is read, entry read .pre .1 .1)
 
 cast-result : tie.Need-cast-result
 cast-result c = search needs
 
 returns-3 : tie.Need-returns-3
 returns-3 c =
-    let after-inner-limit = c .before in
-    let else-2 = after-inner-limit .before in
-    let else-1 = else-2 .before .before in
-    let after-level-at = else-1 .before .before in
-    let after-settings-of = after-level-at .before in
-    let a = entry after-level-at .args in
-    rw (after-inner-limit .inner-limit .ensures, after-settings-of .settings-of .ensures, owed-is after-level-at)
-    (due-owing (settings-of (a .l .now)) (a .clock) (a .i) (level-row (a .l .now) (a .i)) (within (else-1)) (λ z. else-2 .if2 .left (owed-is after-level-at ∙ z)))
+    let limited = c .before in
+    let owing = limited .before in
+    let few = owing .before .before in
+    let read = few .before .before in
+    let a = entry read .args in
+    rw (limited .inner-limit .ensures, read .before .settings-of .ensures, owed-is read)
+    (due-owing (settings-of (a .l .now)) (a .clock) (a .i) (level-row (a .l .now) (a .i)) (within few) (λ z. owing .if2 .left (owed-is read ∙ z)))
 
 pub is-due-spec : {M : Type 1} → statement M
 is-due-spec =

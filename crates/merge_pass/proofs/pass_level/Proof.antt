@@ -1,4 +1,4 @@
--- `merge_pass::pass_level` meets its contract: its test is the model's, and what it merges is level i of every store that the tables hold.
+-- The test is the model's, and what is merged is level i of every store that the tables hold.
 use borrow.Author.Needs.{needs}
 use mathlib.Core.Path.{_≡_, _∙_}
 use Prim.Native.Nat.{_<_}
@@ -16,16 +16,19 @@ use Rattle.merge_pass.proofs.pass_level.Tie as tie
 is-due-requires : tie.Need-is-due-requires
 is-due-requires c κs =
     let at-entry = c .before .before .before in
-    let a = at-entry .args in
+    let e = at-entry .args .e .now in
+    let l = at-entry .args .l .now in
+    let i = at-entry .args .i in
     let g = at-entry .pre .value in
     let h = at-entry .pre .has in (
-      omega (arith, laid-length g (a .e .now) (a .l .now) (h .0), h .3),
-      (laid-inner g (a .e .now) (a .l .now) (h .0) (a .i) (h .2) (h .3), omega (arith, h .1, laid-owed g (a .e .now) (a .l .now) (h .0) (a .i) (omega (arith, h .3)))),
+      omega (arith, laid-length g e l (h .0), h .3),
+      (laid-inner g e l (h .0) i (h .2) (h .3), omega (arith, h .1, laid-owed g e l (h .0) i (omega (arith, h .3)))),
     )
 
 same-length : tie.Need-same-length
 same-length c = search needs
 
+-- Where the code stands, seen from a later place.
 abbrev entry : tie.After-is-due → tie.Start
 entry c = c .before .before .before .before
 
@@ -40,7 +43,9 @@ returns c = λ g laid now low deep.
     level-stays g (a .e .now) (a .l .now) (a .clock) (a .i) (fails (found (c .before) g laid deep) (c .if1 .taken)) laid
 
 merge-level-requires : tie.Need-merge-level-requires
-merge-level-requires c κs = let start = entry (c .before .before .before) in record { value = start .pre .value; has = (start .pre .has .0, start .pre .has .3) }
+merge-level-requires c κs =
+    let p = entry (c .before .before .before) .pre in
+    record { value = p .value; has = (p .has .0, p .has .3) }
 
 same-length-2 : tie.Need-same-length-2
 same-length-2 c = search needs
@@ -50,12 +55,12 @@ same-length-3 c = search needs
 
 returns-2 : tie.Need-returns-2
 returns-2 c = λ g laid now low deep.
-    let after-merge-level = c .before .before .before .before in
-    let else-1 = after-merge-level .before .before .before in
-    let after-is-due = else-1 .before in
-    let a = entry (after-is-due) .args in
-    let merge = after-merge-level .merge-level in
-    level-merged g (merge .last .0) (merge .last .1 .0) (a .clock) (a .i) (holds (found (after-is-due) g laid deep) (else-1 .if1 .left)) (merge .ensures g laid deep)
+    let merged = c .before .before .before .before in
+    let due = merged .before .before .before in
+    let a = entry (due .before) .args in
+    let merge = merged .merge-level in
+    let is-due = holds (found (due .before) g laid deep) (due .if1 .left) in
+    level-merged g (merge .last .0) (merge .last .1 .0) (a .clock) (a .i) is-due (merge .ensures g laid deep)
 
 pub pass-level-spec : {M : Type 1} → statement M
 pass-level-spec =

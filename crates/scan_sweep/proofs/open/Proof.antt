@@ -20,21 +20,47 @@ use Rattle.scan_sweep.proofs.Opening.{front-is-ordered, front-small}
 use Rattle.scan_sweep.proofs.open.Statement.{statement}
 use Rattle.scan_sweep.proofs.open.Tie as tie
 
+-- What a turn does to the heads, and what it does to the ranges.
+abbrev push-level : List ℕ → List ℕ → ℕ → ℕ → Heads → Heads
+push-level e l lo i heads = pushed heads (head-at e i (front-at e l lo i))
+
+abbrev range-level : List ℕ → ℕ → List ℕ → List ℕ
+range-level l i ranges = set ranges i (level-row l i .ranges)
+
 abbrev Inv-loop : tie.InvT-loop
 Inv-loop e l lo hi levels heads₀ ranges₀ i₀ heads ranges i =
     (i ≤ levels) × (levels ≡ settings-of l .deepest + 1) × (length ranges ≡ 7)
-    × (iterate (λ i a. pushed a (head-at e i (front-at e l lo i))) i (levels - i) heads ≡ opened-heads e l lo levels)
-    × (iterate (λ i rs. set rs i (level-row l i .ranges)) i (levels - i) ranges ≡ opened-ranges l levels)
+    × (iterate (push-level e l lo) i (levels - i) heads ≡ opened-heads e l lo levels)
+    × (iterate (range-level l) i (levels - i) ranges ≡ opened-ranges l levels)
 
 abbrev μ-loop : tie.MeasureT-loop
 μ-loop e l lo hi levels heads₀ ranges₀ i₀ heads ranges i = levels - i
 
 -- Where the code stands, seen from a later place.
-abbrev entry-of : tie.At-loop Inv-loop μ-loop → tie.Start Inv-loop μ-loop
-entry-of c = c .before .before .before .before .before
+abbrev entry : tie.At-loop Inv-loop μ-loop → tie.Start Inv-loop μ-loop
+entry c = c .before .before .before .before .before
 
-abbrev in-turn-of : tie.After-push Inv-loop μ-loop → tie.In-loop Inv-loop μ-loop
-in-turn-of c = c .before .before .before .before
+abbrev row-read : tie.After-push Inv-loop μ-loop → tie.After-level-at Inv-loop μ-loop
+row-read c = c .before .before .before
+
+abbrev tested : tie.After-push Inv-loop μ-loop → tie.In-loop Inv-loop μ-loop
+tested c = row-read c .before
+
+-- The level of a turn is one of the store's.
+level-in : (c : tie.In-loop Inv-loop μ-loop) → c .before .loop .i ≤ settings-of (entry (c .before) .args .l .now) .deepest
+level-in c = omega (arith, c .before .loop .inv .1, c .loop-test .taken)
+
+-- The slot found is the first of the level's points at or above the bottom.
+abbrev front : tie.After-seek Inv-loop μ-loop → ℕ
+front c =
+    let turn = c .before .before .before in
+    front-at (entry turn .args .e .now) (entry turn .args .l .now) (entry turn .args .lo) (turn .loop .i)
+
+found : (c : tie.After-seek Inv-loop μ-loop) → c .seek .result ≡ front c
+found c =
+    let e = entry (c .before .before .before) .args .e .now in
+    let lo = entry (c .before .before .before) .args .lo in
+    c .seek .ensures ∙ ap (λ (v : Level). first-slot (beginning e lo (chain-from e (v .points)))) (c .before .level-at .ensures)
 
 deepest-of-requires : tie.Need-deepest-of-requires Inv-loop μ-loop
 deepest-of-requires c κs = omega (arith, c .before .before .pre .rows)
@@ -46,79 +72,95 @@ nothing-requires : tie.Need-nothing-requires Inv-loop μ-loop
 nothing-requires c κs = search needs
 
 loop-holds : tie.Need-loop-holds Inv-loop μ-loop
-loop-holds c = let all : c .before .deepest-of .result + 1 - 0 ≡ c .before .deepest-of .result + 1 = omega arith in (omega arith, omega (arith, c .before .deepest-of .ensures), refl, rw (c .nothing .ensures, all), rw all)
+loop-holds c =
+    let deepest = c .before .deepest-of in
+    let all : deepest .result + 1 - 0 ≡ deepest .result + 1 = omega arith in
+    (omega arith, omega (arith, deepest .ensures), refl, rw (c .nothing .ensures, all), rw all)
 
 level-at-requires : tie.Need-level-at-requires Inv-loop μ-loop
 level-at-requires c κs =
-    let turn = c .before in
-    let entry = entry-of turn in
-    omega (arith, turn .loop .inv .1, c .loop-test .taken, entry .pre .rows)
+    omega (arith, level-in c, entry (c .before) .pre .rows)
 
 seek-requires : tie.Need-seek-requires Inv-loop μ-loop
 seek-requires c κs =
-    let in-turn = c .before in
-    let turn = in-turn .before in
-    let entry = entry-of turn in
-    rw (ap (λ (v : Level). v .points) (c .level-at .ensures)) (entry .pre .points (turn .loop .i) (omega (arith, turn .loop .inv .1, in-turn .loop-test .taken)))
+    let turn = c .before .before in
+    rw (ap (λ (v : Level). v .points) (c .level-at .ensures)) (entry turn .pre .points (turn .loop .i) (level-in (c .before)))
 
-front-is : (e l : List ℕ) (lo i s : ℕ) (v : Level) → s ≡ first-slot (beginning e lo (chain-from e (v .points))) → v ≡ level-at l i → s ≡ front-at e l lo i
-front-is e l lo i s v q is = q ∙ ap (λ (v : Level). first-slot (beginning e lo (chain-from e (v .points)))) is
-
+-- The sweep that is returned.
 opens : (e l : List ℕ) (lo hi levels : ℕ) (heads : Heads) (ranges : List ℕ) → levels ≡ settings-of l .deepest + 1
     → heads ≡ opened-heads e l lo levels → ranges ≡ opened-ranges l levels
-    → record { heads = heads; ranges = ranges; levels = levels; cover = 0; fence = 0; from = lo; hi = hi; going = 1; live = 0; key = 0; value = 0; stamp = 0 } ≡ opened e l lo hi
+    → record {
+      heads = heads;
+      ranges = ranges;
+      levels = levels;
+      cover = 0;
+      fence = 0;
+      from = lo;
+      hi = hi;
+      going = 1;
+      live = 0;
+      key = 0;
+      value = 0;
+      stamp = 0;
+    } ≡ opened e l lo hi
 opens e l lo hi levels heads ranges n h r = rw (h, r, n)
 
 head-requires : tie.Need-head-requires Inv-loop μ-loop
 head-requires c κs =
-    let after-level-at = c .before in
-    let in-turn = after-level-at .before in
+    let in-turn = c .before .before in
     let turn = in-turn .before in
-    let entry = entry-of turn in
-    let i = turn .loop .i in rw (front-is (entry .args .e .now) (entry .args .l .now) (entry .args .lo) i _ _ (c .seek .ensures) (after-level-at .level-at .ensures)) (front-is-ordered (entry .pre) (entry .args .lo) i (omega (arith, turn .loop .inv .1, in-turn .loop-test .taken)), (omega (arith, turn .loop .inv .1, in-turn .loop-test .taken, entry .pre .shallow), front-small (entry .pre) (entry .args .lo) i (omega (arith, turn .loop .inv .1, in-turn .loop-test .taken))))
+    let i = turn .loop .i in
+    let lo = entry turn .args .lo in
+    let sweepable = entry turn .pre in
+    let deep = level-in in-turn in
+    rw (found c) (front-is-ordered sweepable lo i (omega arith), (omega (arith, sweepable .shallow), front-small sweepable lo i (omega arith)))
 
 push-requires : tie.Need-push-requires Inv-loop μ-loop
 push-requires c κs = search needs
 
 mul-ranges : tie.Need-mul-ranges Inv-loop μ-loop
-mul-ranges c =
-    let in-turn = in-turn-of c in
-    let turn = in-turn .before in
-    let entry = entry-of turn in
-    omega (arith, turn .loop .inv .1, in-turn .loop-test .taken, entry .pre .shallow)
+mul-ranges c = omega (arith, level-in (tested c), entry (tested c .before) .pre .shallow)
 
 array-write-ranges : tie.Need-array-write-ranges Inv-loop μ-loop
-array-write-ranges c =
-    let in-turn = in-turn-of c in
-    let turn = in-turn .before in
-    let entry = entry-of turn in
-    omega (arith, turn .loop .inv .1, turn .loop .inv .2, in-turn .loop-test .taken, entry .pre .shallow)
+array-write-ranges c = omega (arith, level-in (tested c), tested c .before .loop .inv .2, entry (tested c .before) .pre .shallow)
 
 add-i : tie.Need-add-i Inv-loop μ-loop
-add-i c =
-    let in-turn = in-turn-of c in
-    omega (arith, in-turn .loop-test .taken)
+add-i c = omega (arith, tested c .loop-test .taken)
 
 loop-less : tie.Need-loop-less Inv-loop μ-loop
-loop-less c =
-    let in-turn = in-turn-of c in
-    omega (arith, in-turn .loop-test .taken)
+loop-less c = omega (arith, tested c .loop-test .taken)
 
 loop-again : tie.Need-loop-again Inv-loop μ-loop
 loop-again c =
-    let after-head = c .before in
-    let after-seek = after-head .before in
-    let after-level-at = after-seek .before in
-    let in-turn = after-level-at .before in
-    let turn = in-turn .before in
-    let entry = entry-of turn in
-    let e = entry .args .e .now in let l = entry .args .l .now in let lo = entry .args .lo in let i = turn .loop .i in let pushed-is = c .push .ensures ∙ ap (pushed (turn .loop .heads)) (after-head .head .ensures ∙ ap (head-at e i) (front-is e l lo i _ _ (after-seek .seek .ensures) (after-level-at .level-at .ensures))) in let ranges-is = ap (λ (v : Level). set (turn .loop .ranges) i (v .ranges)) (after-level-at .level-at .ensures) in (omega (arith, in-turn .loop-test .taken), turn .loop .inv .1, length-set (turn .loop .ranges) i _ ∙ turn .loop .inv .2, rw pushed-is (sym (iterate-next (λ j x. pushed x (head-at e j (front-at e l lo j))) _ i (turn .loop .heads) _ (in-turn .loop-test .taken) (add-one _)) ∙ turn .loop .inv .3), rw ranges-is (sym (iterate-next (λ j rs. set rs j (level-row l j .ranges)) _ i (turn .loop .ranges) _ (in-turn .loop-test .taken) (add-one _)) ∙ turn .loop .inv .4))
+    let turn = tested c .before in
+    let more = tested c .loop-test .taken in
+    let e = entry turn .args .e .now in
+    let l = entry turn .args .l .now in
+    let lo = entry turn .args .lo in
+    let i = turn .loop .i in
+    let heads = turn .loop .heads in
+    let ranges = turn .loop .ranges in
+    let pushed-is = c .push .ensures ∙ ap (pushed heads) (c .before .head .ensures ∙ ap (head-at e i) (found (c .before .before))) in
+    let ranges-is = ap (λ (v : Level). set ranges i (v .ranges)) (row-read c .level-at .ensures) in (
+      omega (arith, more),
+      turn .loop .inv .1,
+      length-set ranges i _ ∙ turn .loop .inv .2,
+      rw pushed-is (sym (iterate-next (push-level e l lo) _ i heads _ more (add-one _)) ∙ turn .loop .inv .3),
+      rw ranges-is (sym (iterate-next (range-level l) _ i ranges _ more (add-one _)) ∙ turn .loop .inv .4),
+    )
 
 returns : tie.Need-returns Inv-loop μ-loop
 returns c =
     let turn = c .before in
-    let entry = entry-of turn in
-    let e = entry .args .e .now in let l = entry .args .l .now in let lo = entry .args .lo in opens e l lo (entry .args .hi) _ (turn .loop .heads) (turn .loop .ranges) (turn .loop .inv .1) (sym (iterate-end (λ j x. pushed x (head-at e j (front-at e l lo j))) _ (turn .loop .i) (turn .loop .heads) (c .loop-test .left)) ∙ turn .loop .inv .3) (sym (iterate-end (λ j rs. set rs j (level-row l j .ranges)) _ (turn .loop .i) (turn .loop .ranges) (c .loop-test .left)) ∙ turn .loop .inv .4)
+    let e = entry turn .args .e .now in
+    let l = entry turn .args .l .now in
+    let lo = entry turn .args .lo in
+    let i = turn .loop .i in
+    let heads = turn .loop .heads in
+    let ranges = turn .loop .ranges in
+    let heads-are = sym (iterate-end (push-level e l lo) _ i heads (c .loop-test .left)) ∙ turn .loop .inv .3 in
+    let ranges-are = sym (iterate-end (range-level l) _ i ranges (c .loop-test .left)) ∙ turn .loop .inv .4 in
+    opens e l lo (entry turn .args .hi) _ heads ranges (turn .loop .inv .1) heads-are ranges-are
 
 pub open-spec : {M : Type 1} → statement M
 open-spec =

@@ -1,44 +1,44 @@
--- `write_enter::enter` meets its contract: the buffer with the record in it, and its row.
+-- A range and a point each enter the buffer, and what the code returns of the buffer becomes its row.
 use native.Mathlib.Omega.{arith}
 use borrow.Author.Needs.{needs}
+use Rattle.tables.specs.Rows.{InRows}
 use Rattle.merge_levels.proofs.Store.{laid-length}
 use Rattle.write_enter.proofs.LaidEntries.{entry, entry-asked, entering-asked, row-fits, entry-ends}
 use Rattle.write_enter.proofs.enter.Statement.{statement}
 use Rattle.write_enter.proofs.enter.Tie as tie
 
 -- Where the code stands, seen from a later place.
-abbrev entry-of : tie.After-level-at → tie.Start
-entry-of c = c .before .before .before .before
+abbrev start : tie.After-level-at → tie.Start
+start c = c .before .before .before .before
 
-abbrev after-level-at-of : tie.After-enter-range → tie.After-level-at
-after-level-at-of c = c .before .before .before .before
+abbrev range-read : tie.After-enter-range → tie.After-level-at
+range-read c = c .before .before .before .before
 
-abbrev after-level-at-of-2 : tie.After-enter-point → tie.After-level-at
-after-level-at-of-2 c = c .before .before .before .before
+abbrev point-read : tie.After-enter-point → tie.After-level-at
+point-read c = c .before .before .before .before
+
+-- The level table has the buffer's row.
+rows : (c : tie.Start) → InRows (c .args .l .now) 0
+rows c =
+    let p = c .pre .0 in
+    omega (arith, laid-length (p .value) (c .args .e .now) (c .args .l .now) (p .has .laid))
 
 level-at-requires : tie.Need-level-at-requires
-level-at-requires c κs =
-    let a = c .before .before .before .args in
-    let p = c .before .before .before .pre .0 in
-    omega (arith, laid-length (p .value) (a .e .now) (a .l .now) (p .has .laid))
+level-at-requires c κs = rows (c .before .before .before)
 
 enter-range-requires : tie.Need-enter-range-requires
 enter-range-requires c κs =
-    let then-1 = c .before in
-    let after-level-at = then-1 .before .before in
-    let start = entry-of after-level-at in
-    let p = start .pre .0 in
-    (record { value = entry (p .value) (p .has .write); has = entering-asked (p .has) (after-level-at .level-at .ensures) }, then-1 .if1 .taken)
+    let ranged = c .before in
+    let read = ranged .before .before in
+    let p = start read .pre .0 in
+    (record { value = entry (p .value) (p .has .write); has = entering-asked (p .has) (read .level-at .ensures) }, ranged .if1 .taken)
 
 set-level-requires : tie.Need-set-level-requires
 set-level-requires c κs =
-    let after-enter-range = c .before .before .before in
-    let after-level-at = after-level-at-of after-enter-range in
-    let start = entry-of after-level-at in
-    let a = start .args in
-    let p = start .pre .0 in
-    let row = after-level-at .level-at .ensures in
-    (omega (arith, laid-length (p .value) (a .e .now) (a .l .now) (p .has .laid)), row-fits (after-enter-range .enter-range .ensures _ (entering-asked (p .has) row)))
+    let entered = c .before .before .before in
+    let read = range-read entered in
+    let asked = entering-asked (start read .pre .0 .has) (read .level-at .ensures) in
+    (rows (start read), row-fits (entered .enter-range .ensures _ asked))
 
 same-length : tie.Need-same-length
 same-length c = search needs
@@ -48,32 +48,25 @@ same-length-2 c = search needs
 
 returns : tie.Need-returns
 returns c g v laid t is d room =
-    let after-set-level = c .before .before in
-    let after-enter-range = after-set-level .before .before .before .before in
-    let after-level-at = after-level-at-of after-enter-range in
-    let start = entry-of after-level-at in
-    let low = start .pre .1 in
-    let row = after-level-at .level-at .ensures in
-    let n = after-enter-range .enter-range .ensures _ (entry-asked v laid t is d room row) in
-    entry-ends v laid low t d room n (after-set-level .set-level .ensures)
+    let written = c .before .before in
+    let entered = written .before .before .before .before in
+    let read = range-read entered in
+    let n = entered .enter-range .ensures _ (entry-asked v laid t is d room (read .level-at .ensures)) in
+    entry-ends v laid (start read .pre .1) t d room n (written .set-level .ensures)
 
 enter-point-requires : tie.Need-enter-point-requires
 enter-point-requires c κs =
-    let else-1 = c .before in
-    let after-level-at = else-1 .before .before in
-    let start = entry-of after-level-at in
-    let p = start .pre .0 in
-    (record { value = entry (p .value) (p .has .write); has = entering-asked (p .has) (after-level-at .level-at .ensures) }, else-1 .if1 .left)
+    let pointed = c .before in
+    let read = pointed .before .before in
+    let p = start read .pre .0 in
+    (record { value = entry (p .value) (p .has .write); has = entering-asked (p .has) (read .level-at .ensures) }, pointed .if1 .left)
 
 set-level-requires-2 : tie.Need-set-level-requires-2
 set-level-requires-2 c κs =
-    let after-enter-point = c .before .before .before in
-    let after-level-at = after-level-at-of-2 after-enter-point in
-    let start = entry-of after-level-at in
-    let a = start .args in
-    let p = start .pre .0 in
-    let row = after-level-at .level-at .ensures in
-    (omega (arith, laid-length (p .value) (a .e .now) (a .l .now) (p .has .laid)), row-fits (after-enter-point .enter-point .ensures _ (entering-asked (p .has) row)))
+    let entered = c .before .before .before in
+    let read = point-read entered in
+    let asked = entering-asked (start read .pre .0 .has) (read .level-at .ensures) in
+    (rows (start read), row-fits (entered .enter-point .ensures _ asked))
 
 same-length-3 : tie.Need-same-length-3
 same-length-3 c = search needs
@@ -83,14 +76,11 @@ same-length-4 c = search needs
 
 returns-2 : tie.Need-returns-2
 returns-2 c g v laid t is d room =
-    let after-set-level2 = c .before .before in
-    let after-enter-point = after-set-level2 .before .before .before .before in
-    let after-level-at = after-level-at-of-2 after-enter-point in
-    let start = entry-of after-level-at in
-    let low = start .pre .1 in
-    let row = after-level-at .level-at .ensures in
-    let n = after-enter-point .enter-point .ensures _ (entry-asked v laid t is d room row) in
-    entry-ends v laid low t d room n (after-set-level2 .set-level2 .ensures)
+    let written = c .before .before in
+    let entered = written .before .before .before .before in
+    let read = point-read entered in
+    let n = entered .enter-point .ensures _ (entry-asked v laid t is d room (read .level-at .ensures)) in
+    entry-ends v laid (start read .pre .1) t d room n (written .set-level2 .ensures)
 
 pub enter-spec : {M : Type 1} → statement M
 enter-spec =

@@ -1,3 +1,4 @@
+-- A put leaves what is owed as it is; a delete makes it the earlier of that and its clock.
 use borrow.Author.Needs.{needs}
 use borrow.Author.Tests.{eq-eqb, ne-eqb}
 use Rattle.write_enter.proofs.owed_with.Statement.{statement}

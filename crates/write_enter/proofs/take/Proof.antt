@@ -1,63 +1,59 @@
 -- The first free slot leaves the free chain and takes the record.
 use borrow.Author.Needs.{needs}
-use mathlib.Core.Path.{_≡_, sym, ap, _∙_}
-use mathlib.Core.List.{List}
-use Prim.Native.Nat.{ℕ}
+use mathlib.Core.Path.{ap}
 use native.Mathlib.Omega.{arith}
 use lib.ListN.{length}
-use Rattle.lists.specs.All.{Exists}
-use Rattle.tables.specs.Slots.{InTable, slot-at, set-slot, first-free, with-link}
-use Rattle.tables.specs.Placed.{cell-slot}
+use Rattle.tables.specs.Slots.{InTable, slot-at, first-free, with-link}
 use Rattle.tables.proofs.Slots.{length-set-slot}
-use Rattle.write_record.specs.Records.{record-cell}
-use Rattle.write_record.specs.declared.Record.{Record}
-use Rattle.write_enter.specs.Taking.{FreeHeld}
 use Rattle.write_enter.proofs.Takes.{first-slot, first-in-table, take-ends}
 use Rattle.write_enter.proofs.take.Statement.{statement}
 use Rattle.write_enter.proofs.take.Tie as tie
 
--- The first free slot is in the table.
-starts : (e : List ℕ) (w : Record) → Exists (λ g. FreeHeld g e w) → {x : ℕ} → x ≡ first-free e → InTable e x
-starts e w p q = omega (arith, q, first-slot (p .has), first-in-table (p .has))
-
 -- Where the code stands, seen from a later place.
-abbrev entry-of : tie.After-first-free → tie.Start
-entry-of c = c .before .before .before
+abbrev entry : tie.After-first-free → tie.Start
+entry c = c .before .before .before
 
-abbrev after-first-free-of : tie.After-next-of → tie.After-first-free
-after-first-free-of c = c .before .before .before
+abbrev first-read : tie.After-next-of → tie.After-first-free
+first-read c = c .before .before .before
+
+-- The first free slot is in the table.
+first-in : (c : tie.After-first-free) → InTable (entry c .args .e .now) (c .first-free .result)
+first-in c =
+    let held = entry c .pre .has in
+    omega (arith, c .first-free .ensures, first-slot held, first-in-table held)
 
 first-free-requires : tie.Need-first-free-requires
 first-free-requires c κs = search needs
 
 next-of-requires : tie.Need-next-of-requires
-next-of-requires c κs =
-    let after-first-free = c .before .before in
-    let entry = entry-of after-first-free in
-    starts (entry .args .e .now) (entry .args .w) (entry .pre) (after-first-free .first-free .ensures)
+next-of-requires c κs = first-in (c .before .before)
 
 set-first-free-requires : tie.Need-set-first-free-requires
 set-first-free-requires c κs = search needs
 
 set-record-requires : tie.Need-set-record-requires
 set-record-requires c κs =
-    let after-set-first-free = c .before .before .before in
-    let after-next-of = after-set-first-free .before in
-    let after-first-free = after-first-free-of after-next-of in
-    let entry = entry-of after-first-free in
-    (omega (arith, starts (entry .args .e .now) (entry .args .w) (entry .pre) (after-first-free .first-free .ensures), ap length (after-set-first-free .set-first-free .ensures), length-set-slot (entry .args .e .now) 0 (with-link (after-next-of .next-of .result) (slot-at (entry .args .e .now) 0))), (omega (arith, entry .pre .has .kind-fits), (omega (arith, entry .pre .has .lo-fits), omega (arith, entry .pre .has .hi-fits))))
+    let unchained = c .before .before .before in
+    let next = unchained .before in
+    let e = entry (first-read next) .args .e .now in
+    let fits = entry (first-read next) .pre .has in
+    let same = length-set-slot e 0 (with-link (next .next-of .result) (slot-at e 0)) in (
+      omega (arith, first-in (first-read next), ap length (unchained .set-first-free .ensures), same),
+      (omega (arith, fits .kind-fits), (omega (arith, fits .lo-fits), omega (arith, fits .hi-fits))),
+    )
 
 same-length : tie.Need-same-length
 same-length c = search needs
 
 returns : tie.Need-returns
 returns c = λ g h.
-    let after-set-record = c .before .before in
-    let after-set-first-free = after-set-record .before .before .before .before in
-    let after-next-of = after-set-first-free .before in
-    let after-first-free = after-first-free-of after-next-of in
-    let entry = entry-of after-first-free in
-    take-ends h (entry .args .clock) (after-first-free .first-free .ensures) (after-next-of .next-of .ensures) (after-set-record .set-record .ensures ∙ ap (λ (x : List ℕ). set-slot x (after-first-free .first-free .result) (cell-slot 0 (record-cell (after-first-free .first-free .result) (entry .args .clock) (entry .args .w)))) (after-set-first-free .set-first-free .ensures))
+    let recorded = c .before .before in
+    let unchained = recorded .before .before .before .before in
+    let next = unchained .before in
+    let first = first-read next .first-free in
+    let a = entry (first-read next) .args in
+    take-ends h (a .clock) (first .ensures) (next .next-of .ensures)
+    (rw (unchained .set-first-free .ensures) at (recorded .set-record .ensures))
 
 pub take-spec : {M : Type 1} → statement M
 take-spec =
