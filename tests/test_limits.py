@@ -1,10 +1,10 @@
-"""What the program `limits` prints is what the formulas of document 01 give."""
+"""What the program `print_limits` prints is what the formulas of document 01 give."""
 import pathlib
 import re
 import subprocess
 import unittest
 
-PROGRAM = pathlib.Path(__file__).parent.parent / "target" / "bin" / "limits"
+PROGRAM = pathlib.Path(__file__).parent.parent / "target" / "bin" / "print_limits"
 
 
 class Limits(unittest.TestCase):
