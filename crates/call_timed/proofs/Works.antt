@@ -1,35 +1,31 @@
--- The dockets that an operation names, the records that it writes, and what a flush and a tick do before their pass.
-use mathlib.Core.Path.{_≡_, refl}
+-- The records that an operation writes, and what a flush and a tick do before their pass.
+use mathlib.Core.Path.{_≡_, refl, sym}
 use mathlib.Core.Bool.{false, false≢true}
 use mathlib.Core.List.{List}
 use Prim.Native.Nat.{ℕ, _≤_}
 use native.Mathlib.Omega.{arith}
+use Rattle.lists.specs.All.{Exists}
 use Rattle.model.specs.Steps.{begin, merge-level}
-use Rattle.model.specs.Calls.{Op, written, flush, tick, bad-docket, count-written, prepared}
+use Rattle.model.specs.Calls.{Op, written, flush, tick, count-written, prepared}
 use Rattle.tables.specs.Placed.{read-state}
-use Rattle.check_refusal.specs.Dockets.{bad-dockets}
-use Rattle.check_refusal.proofs.Refusals.{one-docket}
 use Rattle.merge_levels.specs.Laid.{Laid, Worked}
-use Rattle.call_refusal.specs.Began.{store}
-use Rattle.call_write.specs.Writing.{Prepares}
-use Rattle.call_timed.specs.declared.Op as code
-use Rattle.call_timed.specs.declared.Op.the-variants.{Put, Delete, DeleteRange}
-use Rattle.call_timed.specs.Ops.{op-of}
-
-module _ {op : code.Op} where
-  pub dockets-put : {k a : ℕ} → op ≡ Put k a → bad-docket (op-of op) ≡ bad-dockets k k
-  dockets-put {k} is = rw is (one-docket k)
-
-  pub dockets-delete : {k : ℕ} → op ≡ Delete k → bad-docket (op-of op) ≡ bad-dockets k k
-  dockets-delete {k} is = rw is (one-docket k)
-
-  pub dockets-range : {lo hi : ℕ} → op ≡ DeleteRange lo hi → bad-docket (op-of op) ≡ bad-dockets lo hi
-  dockets-range is = rw is
+use Rattle.write_record.specs.declared.Record.{Record}
+use Rattle.call_op.specs.declared.Work.the-variants.{Write}
+use Rattle.call_op.specs.Works.{work-of}
+use Rattle.call_op.proofs.Known.{is-written}
+use Rattle.call_refusal.specs.Began.{Began, store}
+use Rattle.call_write.specs.Writing.{Writes, Prepares}
 
 pub written-most : (op : Op ℕ) → count-written op ≤ 1
 written-most (written v) = omega arith
 written-most flush = omega arith
 written-most tick = omega arith
+
+-- An operation whose work is a record is a write of that record.
+pub writes : {e l : List ℕ} {t : ℕ} (o : Op ℕ) {w : Record} → Began e l t o → Write w ≡ work-of o → Exists (λ v. (o ≡ written v) × Writes v e l t w)
+writes o b is =
+    let x = is-written o (sym is) in
+    record { value = x .value; has = (x .has .0, record { began = rw (x .has .0) at b; write-is = x .has .1 }) }
 
 -- A flush has merged the buffer when its pass begins, a tick nothing.
 module _ {e l : List ℕ} {t : ℕ} {e′ l′ : List ℕ} where

@@ -2,39 +2,24 @@
 use call_end::Answer;
 use call_end::finish;
 use call_end::refused;
+use call_op::Op;
+use call_op::Work;
+use call_op::dockets;
+use call_op::records_written;
+use call_op::work_of;
 use call_refusal::refusal_of;
 use call_write::Prepared;
 use call_write::write;
 use merge_levels::merge_level;
 use table_levels::held_all;
-use table_slots::DELETE;
-use table_slots::PUT;
-use table_slots::RANGE;
-use write_record::Record;
 ghost use mathlib.Core.Path.{_≡_};
 ghost use Rattle.model.specs.Steps.{put, delete, delete-range};
-ghost use Rattle.model.specs.Calls.{flush, tick, written, bad-docket, count-written};
-ghost use Rattle.check_refusal.specs.Dockets.{bad-dockets};
+ghost use Rattle.model.specs.Calls.{flush, tick, written};
 ghost use Rattle.call_tables.specs.Calls.{lent, call-tables};
 ghost use Rattle.call_refusal.specs.Began.{Began};
 ghost use Rattle.call_end.specs.Coded.{called};
 ghost use Rattle.call_write.specs.Writing.{Prepares};
-ghost use Rattle.call_timed.specs.Ops.{op-of};
-
-// What a timed call does: a put of a docket and its tally, a delete of a docket, a delete of the dockets from lo to hi, a flush or a tick.
-pub enum Op {
-    Put(u32, u32),
-    Delete(u32),
-    DeleteRange(u32, u32),
-    Flush,
-    Tick,
-}
-
-// The dockets from lo to hi.
-struct Span {
-    lo: u32,
-    hi: u32,
-}
+ghost use Rattle.call_op.specs.Ops.{op-of};
 
 // Every timed call: the refusals 1 to 5 are asked for, then it is carried out.
 pub fn call(entries: &mut [u32], levels: &mut [u32], clock: u32, op: Op) -> Answer
@@ -83,38 +68,6 @@ pub fn tick(entries: &mut [u32], levels: &mut [u32], clock: u32) -> Answer
     call(entries, levels, clock, Op::Tick)
 }
 
-// The dockets that an operation names; 0 alone for one that names none.
-fn dockets(op: Op) -> Span
-    ensures { λ r. ⌜ bad-docket (op-of op) ≡ bad-dockets (r .lo) (r .hi) ⌝ }
-{
-    match op {
-        Op::Put(docket, _) => Span {
-            lo: docket,
-            hi: docket,
-        },
-        Op::Delete(docket) => Span {
-            lo: docket,
-            hi: docket,
-        },
-        Op::DeleteRange(lo, hi) => Span { lo: lo, hi: hi },
-        Op::Flush => Span { lo: 0, hi: 0 },
-        Op::Tick => Span { lo: 0, hi: 0 },
-    }
-}
-
-// The records that an operation writes.
-fn records_written(op: Op) -> u32
-    ensures { λ r. ⌜ r ≡ count-written (op-of op) ⌝ }
-{
-    match op {
-        Op::Put(_, _) => 1,
-        Op::Delete(_) => 1,
-        Op::DeleteRange(_, _) => 1,
-        Op::Flush => 0,
-        Op::Tick => 0,
-    }
-}
-
 // A call that is not turned away: its work, then its end, unless no slot was left for it.
 fn carry_out(entries: &mut [u32], levels: &mut [u32], clock: u32, op: Op) -> Answer
     requires { ⌜ Began (now entries) (now levels) clock (op-of op) ⌝ }
@@ -133,39 +86,15 @@ fn prepare(entries: &mut [u32], levels: &mut [u32], clock: u32, op: Op) -> Prepa
     requires { ⌜ Began (now entries) (now levels) clock (op-of op) ⌝ }
     ensures { λ r. ⌜ Prepares (now (entries .entry)) (now (levels .entry)) clock (op-of op) (now (entries .exit)) (now (levels .exit)) r ⌝ }
 {
-    match op {
-        Op::Put(docket, tally) => write(entries, levels, clock, point_record(PUT, docket, tally)),
-        Op::Delete(docket) => write(entries, levels, clock, point_record(DELETE, docket, 0)),
-        Op::DeleteRange(lo, hi) => write(
-            entries,
-            levels,
-            clock,
-            Record {
-                kind: RANGE,
-                lo: lo,
-                hi: hi,
-                tally: 0,
-            },
-        ),
-        Op::Flush => Prepared {
+    match work_of(op) {
+        Work::Write(w) => write(entries, levels, clock, w),
+        Work::Merge => Prepared {
             full: false,
             merges: merge_level(entries, levels, 0),
         },
-        Op::Tick => Prepared {
+        Work::Nothing => Prepared {
             full: false,
             merges: 0,
         },
-    }
-}
-
-// The record of a put or a delete of one docket.
-fn point_record(kind: u32, docket: u32, tally: u32) -> Record
-    ensures { λ r. ⌜ r ≡ record { kind = kind; lo = docket; hi = docket; tally = tally } ⌝ }
-{
-    Record {
-        kind: kind,
-        lo: docket,
-        hi: docket,
-        tally: tally,
     }
 }

@@ -2,7 +2,7 @@
 use c_packing::pack;
 use c_packing::pack_lookup;
 use c_packing::pack_scan;
-use call_timed::Op;
+use call_op::Op;
 use call_timed::call;
 use check_refusal::table_refusal;
 use lookup::lookup;
@@ -17,7 +17,7 @@ ghost use Rattle.model.specs.Steps.{put, delete, delete-range};
 ghost use Rattle.model.specs.Calls.{written, flush, tick};
 ghost use Rattle.call_tables.specs.Calls.{lent, call-tables};
 ghost use Rattle.scan.specs.Scan.{scan-tables};
-ghost use Rattle.call_timed.specs.Ops.{op-of};
+ghost use Rattle.call_op.specs.Ops.{op-of};
 ghost use Rattle.c_packing.specs.Packed.{packed, packed-call, packed-scan};
 
 // The number of the refusal that the tables meet, 1 to 3, or 0 where they are sound.

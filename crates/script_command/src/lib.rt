@@ -1,5 +1,5 @@
 // One line of the script, carried out in the memory that holds the store.
-use call_timed::Op;
+use call_op::Op;
 use script_lines::Command;
 use script_lines::Line;
 use script_lines::read_line;

@@ -1,5 +1,5 @@
 // A store in memory for 4,000 slots and 6 levels: its size, and the calls on it, each with the three numbers that it prints.
-use call_timed::Op;
+use call_op::Op;
 use call_timed::call;
 use lookup::Answer;
 use lookup::lookup;
@@ -8,7 +8,7 @@ use table_levels::level_length;
 use table_slots::entry_length;
 ghost use mathlib.Core.Path.{_≡_};
 ghost use Prim.Native.Nat.{_≤_};
-ghost use Rattle.call_timed.specs.Ops.{op-of};
+ghost use Rattle.call_op.specs.Ops.{op-of};
 ghost use Rattle.script_store.specs.Memory.{level-room, makes, does, finds};
 ghost use Rattle.script_store.specs.Coded.{Fits, memory, stepped, counting};
 

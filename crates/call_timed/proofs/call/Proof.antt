@@ -2,7 +2,7 @@
 use native.Mathlib.Omega.{arith}
 use borrow.Author.Needs.{needs}
 use Rattle.call_refusal.proofs.Begun.{Asked, begun}
-use Rattle.call_timed.specs.Ops.{op-of}
+use Rattle.call_op.specs.Ops.{op-of}
 use Rattle.call_timed.proofs.Ends.{away}
 use Rattle.call_timed.proofs.call.Statement.{statement}
 use Rattle.call_timed.proofs.call.Tie as tie

@@ -8,7 +8,7 @@ use Rattle.model.specs.Calls.{count-written}
 use Rattle.tables.specs.Placed.{read-state}
 use Rattle.call_refusal.proofs.Begun.{begun-laid}
 use Rattle.merge_levels.proofs.Free.{laid-rows}
-use Rattle.call_timed.specs.Ops.{op-of}
+use Rattle.call_op.specs.Ops.{op-of}
 use Rattle.call_timed.proofs.Works.{written-most}
 use Rattle.call_timed.proofs.Ends.{ending, ends, full}
 use Rattle.call_timed.proofs.carry_out.Statement.{statement}

@@ -4,7 +4,7 @@ use borrow.Author.Needs.{needs}
 use Prim.Native.Nat.{ℕ}
 use Rattle.model.specs.Calls.{Call}
 use Rattle.tables.specs.Words.{Fits32}
-use Rattle.call_timed.specs.Ops.{op-of}
+use Rattle.call_op.specs.Ops.{op-of}
 use Rattle.guontrem.proofs.Numbers.{refusal-fits, merges-fit, packs}
 use Rattle.guontrem.proofs.call_packed.Statement.{statement}
 use Rattle.guontrem.proofs.call_packed.Tie as tie

@@ -1,6 +1,6 @@
 -- `script_store::run_call`: the call is lent the words of the store alone, and what it leaves of them stands before the rest of the memory.
 use borrow.Author.Needs.{needs}
-use Rattle.call_timed.specs.Ops.{op-of}
+use Rattle.call_op.specs.Ops.{op-of}
 use Rattle.script_store.proofs.Parts.{lent-length, entry-part, level-part}
 use Rattle.script_store.proofs.Turns.{done}
 use Rattle.script_store.proofs.run_call.Statement.{statement}

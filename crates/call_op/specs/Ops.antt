@@ -2,8 +2,8 @@
 use Prim.Native.Nat.{ℕ}
 use Rattle.model.specs.Steps.{put, delete, delete-range}
 use Rattle.model.specs.Calls as model
-use Rattle.call_timed.specs.declared.Op.{Op}
-use Rattle.call_timed.specs.declared.Op.the-variants.{Put, Delete, DeleteRange, Flush, Tick}
+use Rattle.call_op.specs.declared.Op.{Op}
+use Rattle.call_op.specs.declared.Op.the-variants.{Put, Delete, DeleteRange, Flush, Tick}
 
 abbrev pub op-of : Op → model.Op ℕ
 op-of (Put docket tally) = model.written (put docket tally)

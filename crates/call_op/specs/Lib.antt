@@ -1,0 +1,3 @@
+-- A timed call's operation, and its work.
+pub mod Ops
+pub mod Works

@@ -1,2 +1,0 @@
--- A timed call's operation.
-pub mod Ops
