@@ -12,7 +12,7 @@ README = ROOT / "README.md"
 PAGES = [README, *sorted(DOCS.glob("*.md"))]
 WIDTH = 120
 # The crates of the public calls.
-CALLS = ("make", "check_refusal", "call_timed", "lookup", "scan", "guontrem", "script_lines", "script_command", "script_prints")
+CALLS = ("make", "check_refusal", "call_any", "call_timed", "lookup", "scan", "guontrem", "script_lines", "script_command", "script_prints")
 sys.path[:0] = [str(ROOT / "scripts"), str(ROOT / "tests")]
 import picture  # noqa: E402
 import reference  # noqa: E402

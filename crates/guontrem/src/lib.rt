@@ -2,8 +2,8 @@
 use c_packing::pack;
 use c_packing::pack_lookup;
 use c_packing::pack_scan;
+use call_any::call;
 use call_op::Op;
-use call_timed::call;
 use check_refusal::table_refusal;
 use lookup::lookup;
 use make::make;

@@ -1,6 +1,6 @@
 // A store in memory for 4,000 slots and 6 levels: its size, and the calls on it, each with the three numbers that it prints.
+use call_any::call;
 use call_op::Op;
-use call_timed::call;
 use lookup::Answer;
 use lookup::lookup;
 use make::make;

@@ -1,0 +1,53 @@
+-- `check_kinds::is_range`: each return decides the tests of a range, in their order.
+use Rattle.lists.proofs.Branches.{equal, unequal, upto, above}
+use mathlib.Core.Path.{_≡_, refl}
+use mathlib.Core.Bool.{true}
+use lib.Dec.{leb}
+use Rattle.tables.specs.Slots.{lo-of, hi-of}
+use borrow.Author.Needs.{needs}
+use Rattle.check_kinds.proofs.is_range.Statement.{statement}
+use Rattle.check_kinds.proofs.is_range.Tie as tie
+
+-- Where the code stands, seen from a later place.
+abbrev entry : tie.Else1 → tie.Start
+entry c = c .before .before .before .before
+
+-- What the first test says that the row has passed.
+lo-upto-hi : (c : tie.Else1) → let a = entry c .args in leb (lo-of (a .e .now) (a .s)) (hi-of (a .e .now) (a .s)) ≡ true
+lo-upto-hi c = upto (c .before .lo-of .ensures) (c .before .before .hi-of .ensures) (c .if1 .left)
+
+hi-of-requires : tie.Need-hi-of-requires
+hi-of-requires c κs = search needs
+
+lo-of-requires : tie.Need-lo-of-requires
+lo-of-requires c κs = search needs
+
+returns : tie.Need-returns
+returns c = rw (above (c .before .lo-of .ensures) (c .before .before .hi-of .ensures) (c .if1 .taken))
+
+kind-of-requires : tie.Need-kind-of-requires
+kind-of-requires c κs = search needs
+
+returns-2 : tie.Need-returns-2
+returns-2 c = rw (lo-upto-hi (c .before .before), unequal (c .before .kind-of .ensures) refl (c .if2 .taken))
+
+tally-of-requires : tie.Need-tally-of-requires
+tally-of-requires c κs = search needs
+
+returns-3 : tie.Need-returns-3
+returns-3 c =
+    let kind-read = c .before .before in
+    let is-range-delete = equal (kind-read .kind-of .ensures) refl (c .before .if2 .left) in
+    rw (lo-upto-hi (kind-read .before), is-range-delete, c .tally-of .ensures)
+
+pub is-range-spec : {M : Type 1} → statement M
+is-range-spec =
+    tie.close
+    (tie.spec
+    hi-of-requires
+    lo-of-requires
+    returns
+    kind-of-requires
+    returns-2
+    tally-of-requires
+    returns-3)
