@@ -76,7 +76,7 @@ module _ (w : Tables) (c : Call ℕ) where
       go false h = absurd (omega (arith, tables-refuse-low (w .entries) (w .levels)))
 
   -- A call is refused 7 on sound tables only.
-  refused-7-sound : call-tables w c .answer .refusal ≡ 7 → t ≡ 0
+  pub refused-7-sound : call-tables w c .answer .refusal ≡ 7 → t ≡ 0
   refused-7-sound h =
       by-cases (eqb t 0) (λ yes. eqb-true t 0 yes)
       (λ no. absurd (omega (arith, tables-refuse-low (w .entries) (w .levels), rw no at (sym refused-exactly ∙ h))))

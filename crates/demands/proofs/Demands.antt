@@ -16,7 +16,7 @@ use Rattle.model.specs.Erasure.{retally, Erased}
 use Rattle.model_history.specs.History.{came, earliest, history}
 use Rattle.tables.specs.Words.{Fits32}
 use Rattle.tables.specs.Slots.{clock-of}
-use Rattle.tables.specs.Rows.{settings-of, level-row}
+use Rattle.tables.specs.Rows.{settings-of, level-row, no-row}
 use Rattle.tables.specs.Sound.{table-refusal}
 use Rattle.lookup.specs.Lookup.{answered, lookup-tables}
 use Rattle.scan.specs.declared.Row.{Row}
@@ -27,6 +27,8 @@ use Rattle.call_tables.specs.Calls.{Tables, call-tables, tables-after, answers-
 use Rattle.demands.specs.Full.{SlotsLive}
 use Rattle.call_tables.proofs.Runs as runs
 use Rattle.call_tables.proofs.Refusals as refusals
+use Rattle.demands.proofs.Full as full
+use Rattle.demands.proofs.Merged as merged
 use Rattle.demands.proofs.Made as made
 
 -- DEMAND 1, for tables of any content. Each timed call is refused in exactly the listed cases, and a refusal "gives its number and zeros".
@@ -47,13 +49,34 @@ module _ (w : Tables) (c : Call ℕ) where
   pub refused-7-clock : Fits32 (w .entries) → call-tables w c .answer .refusal ≡ 7 → clock-of (call-tables w c .tables .entries) ≡ clock-of (w .entries)
   refused-7-clock = refusals.refused-7-clock w c
 
+  pub refused-7-settings : Fits32 (w .entries) → call-tables w c .answer .refusal ≡ 7 → settings-of (call-tables w c .tables .levels) ≡ settings-of (w .levels)
+  refused-7-settings = merged.refused-7-settings w c
+
+  -- Then levels 0 to L−1 have empty rows, and every lookup and every scan answers as before the call.
+  pub refused-7-rows : Fits32 (w .entries) → call-tables w c .answer .refusal ≡ 7 → (i : ℕ) → i < settings-of (w .levels) .deepest
+      → level-row (call-tables w c .tables .levels) i ≡ no-row
+  refused-7-rows = merged.refused-7-rows w c
+
+  pub refused-7-lookups : Fits32 (w .entries) → call-tables w c .answer .refusal ≡ 7 → (k : ℕ)
+      → lookup-tables (call-tables w c .tables .entries) (call-tables w c .tables .levels) k ≡ lookup-tables (w .entries) (w .levels) k
+  refused-7-lookups = merged.refused-7-lookups w c
+
+  pub refused-7-scans : Fits32 (w .entries) → call-tables w c .answer .refusal ≡ 7 → (lo hi : ℕ) (rows : List Row)
+      → scan-tables (call-tables w c .tables .entries) (call-tables w c .tables .levels) lo hi rows ≡ scan-tables (w .entries) (w .levels) lo hi rows
+  refused-7-scans = merged.refused-7-scans w c
+
   -- Sound tables stay sound.
   pub stays-sound : Fits32 (w .entries) → table-refusal (w .entries) (w .levels) ≡ 0
       → table-refusal (call-tables w c .tables .entries) (call-tables w c .tables .levels) ≡ 0
   stays-sound fits = refusals.stays-sound w fits c
 
--- A delete is never refused for lack of a slot.
 module _ (w : Tables) where
+  -- 'Full' comes only when every slot holds a different live docket and the put's is not among them, and then always.
+  pub full-exactly : Fits32 (w .entries) → table-refusal (w .entries) (w .levels) ≡ 0 → (t k a : ℕ) → k ≤ 65535 → bad-clock t (clock-of (w .entries)) ≡ false
+      → (call-tables w (record { clock = t; op = written (put k a) }) .answer .refusal ≡ 7) ↔ SlotsLive k w
+  full-exactly = full.full-exactly w
+
+  -- A delete is never refused for lack of a slot.
   pub delete-never-full : (t k : ℕ) → call-tables w (record { clock = t; op = written (delete k) }) .answer .refusal ≢ 7
   delete-never-full = refusals.delete-never-full w
 
@@ -78,11 +101,10 @@ module _ (n : ℕ) (s : Settings) (low : 1 ≤ n) (high : n ≤ 65535) (ok : all
   pub settings-stay : (cs : List (Call ℕ)) → settings-of (tables-after n s cs .levels) ≡ s
   settings-stay = made.settings-stay n s low high ok
 
-  -- 'Full' comes only when every slot holds a different live docket and the put's is not among them, and then always.
-  pub full-exactly : (cs : List (Call ℕ)) (t k a : ℕ) → k ≤ 65535 → bad-clock t (clock-of (tables-after n s cs .entries)) ≡ false
-      → (call-tables (tables-after n s cs) (record { clock = t; op = written (put k a) }) .answer .refusal ≡ 7)
-      ↔ SlotsLive n k (merged-tables (tables-after n s cs))
-  full-exactly = made.full-exactly n s low high ok
+  -- 'Full' comes as on every pair of sound tables.
+  pub full-after : (cs : List (Call ℕ)) (t k a : ℕ) → k ≤ 65535 → bad-clock t (clock-of (tables-after n s cs .entries)) ≡ false
+      → (call-tables (tables-after n s cs) (record { clock = t; op = written (put k a) }) .answer .refusal ≡ 7) ↔ SlotsLive k (tables-after n s cs)
+  full-after = made.full-after n s low high ok
 
   -- A delete of all dockets is accepted at every clock that is not refused.
   pub widest-accepted : (cs : List (Call ℕ)) (t : ℕ) → bad-clock t (clock-of (tables-after n s cs .entries)) ≡ false

@@ -1,4 +1,8 @@
--- What is proved of every list of calls from a fresh store; the last file has the demands.
-pub mod Live
+-- What is proved of sound tables and of every list of calls from a fresh store; the last file has the demands.
+pub mod SlotLists
+pub mod Whole
+pub mod Puts
+pub mod Full
+pub mod Merged
 pub mod Made
 pub mod Demands

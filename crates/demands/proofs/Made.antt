@@ -1,20 +1,18 @@
 -- What an accepted making left, and what any list of timed calls makes of it: the words of the model's states.
-use mathlib.Core.Path.{_≡_, refl, sym, ap, subst, _∙_}
-use mathlib.Core.Bool.{Bool, true, false, cond}
+use mathlib.Core.Path.{_≡_, sym, ap, subst, _∙_}
+use mathlib.Core.Bool.{true, false}
 use mathlib.Core.List.{List, map}
 use mathlib.Core.Logic.{_↔_}
 use native.Mathlib.Omega.{arith}
-use borrow.Author.Tests.{le-ltb}
 use Prim.Native.Nat.{ℕ, _<_, _≤_}
 use lib.ListN.{length}
 use Rattle.settings.specs.declared.Settings.{Settings}
 use Rattle.settings.specs.Limits.{allowed}
 use Rattle.settings.proofs.Allowed.{allowed-bounds}
 use Rattle.model.specs.Records.{State, fresh, slotless}
-use Rattle.model.specs.Steps.{put, delete-range, merge-all, no-slot}
-use Rattle.model.specs.Calls.{Call, Answer, written, bad-clock, out-of-slots, run, answers}
+use Rattle.model.specs.Steps.{put, delete-range, no-slot}
+use Rattle.model.specs.Calls.{Call, Answer, written, bad-clock, run, answers}
 use Rattle.model.specs.Lookup.{scan}
-use Rattle.model.specs.Live as live
 use Rattle.model.specs.PlainMap.{get, map-run, map-refusals, no-rows}
 use Rattle.model.specs.Erasure.{retally, Erased}
 use Rattle.model.proofs.Demands as model
@@ -25,10 +23,10 @@ use Rattle.tables.proofs.Rows.{settings-back, level-row-at}
 use Rattle.tables.specs.Slots.{slots-of, clock-of}
 use Rattle.tables.specs.Rows.{Row as Row′, settings-of, level-row}
 use Rattle.tables.specs.Sound.{table-refusal}
-use Rattle.tables.specs.Placed.{level-words, read-state}
+use Rattle.tables.specs.Placed.{read-state}
 use Rattle.tables.proofs.Back.{written-reads}
 use Rattle.tables.proofs.FormedSound.{words-sound}
-use Rattle.tables.proofs.FormedSteps.{merge-all-formed, run-formed}
+use Rattle.tables.proofs.FormedSteps.{run-formed}
 use Rattle.tables.specs.Formed.{Formed}
 use Rattle.make.specs.Make.{upto}
 use Rattle.make.proofs.Fresh.{length-upto, fresh-formed, made-entry-words, made-level-words}
@@ -37,15 +35,11 @@ use Rattle.lookup.proofs.Refused.{looked-up-words}
 use Rattle.scan.specs.declared.Row.{Row}
 use Rattle.scan.specs.Scan.{filled, scan-tables}
 use Rattle.scan.proofs.Words.{scanned-words}
-use Rattle.call_tables.specs.Calls.{Tables, words, call-tables, made-tables, tables-after, answers-tables, merged-tables}
+use Rattle.call_tables.specs.Calls.{Tables, words, call-tables, made-tables, tables-after, answers-tables}
 use Rattle.demands.specs.Full.{SlotsLive}
 use Rattle.call_tables.proofs.Runs.{words-slots, run-words, answers-words}
 use Rattle.call_tables.proofs.Refusals.{refused-exactly}
-use Rattle.demands.proofs.Live.{live-words}
-
-seven : (b : Bool) → _≡_ {A = ℕ} (cond b 7 0) 7 → b ≡ true
-seven true q = refl
-seven false q = absurd (omega arith)
+use Rattle.demands.proofs.Full.{full-of-formed}
 
 module _ (n : ℕ) (s : Settings) (low : 1 ≤ n) (high : n ≤ 65535) (ok : allowed s ≡ true) where
   made-words : made-tables n s ≡ words n (fresh s (upto n))
@@ -82,21 +76,10 @@ module _ (n : ℕ) (s : Settings) (low : 1 ≤ n) (high : n ≤ 65535) (ok : all
   unfolding read-state
   clock-is cs = ap (λ (p : State ℕ ℕ). p .clock) (sym (reads cs))
 
-  pub full-exactly : (cs : List (Call ℕ)) (t k a : ℕ) → k ≤ 65535 → bad-clock t (clock-of (tables-after n s cs .entries)) ≡ false
-      → (call-tables (tables-after n s cs) (record { clock = t; op = written (put k a) }) .answer .refusal ≡ 7)
-      ↔ SlotsLive n k (merged-tables (tables-after n s cs))
-  full-exactly cs t k a h b =
-      let w : Tables = tables-after n s cs in
-      let c : Call ℕ = record { clock = t; op = written (put k a) } in
-      let m : State ℕ ℕ = merge-all (after cs) .state in
-      let merged : merged-tables w ≡ words n m = rw (slots-are cs, reads cs) in
-      let number : call-tables w c .answer .refusal ≡ cond (out-of-slots t (written (put k a)) (after cs)) 7 0 =
-      refused-exactly w c ∙ rw (always-sound cs, le-ltb 65535 k h, reads cs, clock-is cs, b) in
-      let full = model.full-exactly s ok (upto n) cs t k a in
-      let same = live-words n m (merge-all-formed n (after cs) (formed cs)) k in (
-        λ q. rw merged (same .0 (rw (length-upto n) at (full .0 (seven (out-of-slots t (written (put k a)) (after cs)) (sym number ∙ q))))),
-        λ q. number ∙ ap (λ x. cond x 7 0) (full .1 (subst (λ x. live.SlotsLive x k m) (sym (length-upto n)) (same .1 (rw merged at q)))),
-      )
+  -- 'Full' on the words after a list, whose tallies and clocks may be any numbers.
+  pub full-after : (cs : List (Call ℕ)) (t k a : ℕ) → k ≤ 65535 → bad-clock t (clock-of (tables-after n s cs .entries)) ≡ false
+      → (call-tables (tables-after n s cs) (record { clock = t; op = written (put k a) }) .answer .refusal ≡ 7) ↔ SlotsLive k (tables-after n s cs)
+  full-after cs = full-of-formed (tables-after n s cs) (always-sound cs) (rw (slots-are cs, reads cs) (formed cs))
 
   -- Nothing but the clock can turn away a delete of all dockets.
   pub widest-accepted : (cs : List (Call ℕ)) (t : ℕ) → bad-clock t (clock-of (tables-after n s cs .entries)) ≡ false

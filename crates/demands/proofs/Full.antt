@@ -1,0 +1,333 @@
+-- A put is refused 7 exactly when every slot holds a different live docket and its own is not among them, on every pair of sound tables.
+use mathlib.Core.Path.{_≡_, refl, sym, ap, subst, _∙_}
+use mathlib.Core.Logic.{_↔_, _≢_}
+use mathlib.Core.Bool.{Bool, true, false, cond, _&&_, _||_, false≢true}
+use mathlib.Core.List.{List, [], _∷_, _++_, map}
+use Prim.Native.Nat.{ℕ, zero, suc, _+_, _≤_}
+use native.Mathlib.Omega.{arith}
+use native.Mathlib.Decide.{ℕ-discrete}
+use lib.Dec.{eqb, leb}
+use lib.ListN.{length, length-map}
+use borrow.Author.Tests.{eqb-true, eqb-false, eq-eqb, ne-eqb, le-ltb}
+use Rattle.lists.specs.Lists.{any, count}
+use Rattle.lists.specs.All.{All}
+use Rattle.lists.proofs.Bools.{by-cases, and-left, and-right, eqb-sym}
+use Rattle.lists.proofs.Tests.{all-append, all-weaken, any-map, any-same}
+use Rattle.lists.proofs.Counting.{Distinct, pigeonhole}
+use Rattle.model.specs.Records.{Point, State, is-put}
+use Rattle.model.specs.Merge.{names, point-slots}
+use Rattle.model.specs.Steps.{put, no-slot}
+use Rattle.model.specs.Calls.{written, bad-clock}
+use Rattle.model.specs.Lookup as model
+use Rattle.model.specs.Lookup.{absent, reads, find, lookup}
+use Rattle.model.specs.Live.{all-points}
+use Rattle.model.proofs.LookupSteps.{merge-all-lookup}
+use Rattle.model.proofs.Slots.{Whole}
+use Rattle.model.proofs.Full.{AllPuts, bottom, found-named, live-slots, live-full}
+use Rattle.tables.specs.Words.{Fits32}
+use Rattle.tables.specs.Slots.{Slot, slots-of, kind-of, lo-of, hi-of, tally-of, stamp-of, clock-of}
+use Rattle.tables.specs.Rows.{settings-of}
+use Rattle.tables.specs.Sound.{free-chain, point-chain, range-chain, is-range, table-refusal}
+use Rattle.tables.specs.Placed.{read-point, read-range, read-levels, read-state}
+use Rattle.tables.specs.Formed.{levels-slots, Formed}
+use Rattle.tables.proofs.Cells.{times, times-head, times-other}
+use Rattle.tables.proofs.Once.{Inside, OnceFacts, once-facts, once-inside, once-most}
+use Rattle.tables.proofs.Remains.{free-slots-blank}
+use Rattle.tables.proofs.SoundWords.{Sound, sound-facts}
+use Rattle.tables.proofs.SoundChains.{free-ends, points-end, ranges-end}
+use Rattle.tables.proofs.FormedSound.{sound-words}
+use Rattle.lookup.specs.Lookup.{answered, lookup-tables}
+use Rattle.lookup.specs.declared.Answer.{Answer}
+use Rattle.lookup.specs.declared.Answer.the-variants.{Refused, Absent, Found}
+use Rattle.call_tables.specs.Calls.{Tables, call-tables}
+use Rattle.call_tables.proofs.Refusals.{refused-exactly}
+use Rattle.demands.specs.Full.{IsSlot, HoldsLive, SlotsLive}
+use Rattle.demands.proofs.Whole.{whole}
+use Rattle.demands.proofs.SlotLists.{count-map, none-counted, all-there, count-one, count-two}
+use Rattle.demands.proofs.Puts.{merge-all-counts, PutsOnly, all-put, slots-points, lookup-points, full-puts, full-free, full-once, full-lacks}
+
+finds : Answer → Bool
+finds (Refused n) = false
+finds Absent = false
+finds (Found tally stamp) = true
+
+found-is : (f : model.Found ℕ) → finds (answered f) ≡ model.is-found f
+unfolding finds
+found-is model.absent = refl
+found-is (model.found a t) = refl
+
+-- Points that are what their slots read.
+module _ (e : List ℕ) where
+  Own : Point ℕ ℕ → Type 0
+  Own x = read-point e (x .slot) ≡ x
+
+  own-chain : (ss : List ℕ) → All Own (map (read-point e) ss)
+  unfolding Own
+  own-chain [] = tt
+  own-chain (s ∷ ss) = (refl, own-chain ss)
+
+  own-levels : (l : List ℕ) (j i : ℕ) → All Own (all-points (read-levels e l j i))
+  unfolding read-levels
+  own-levels l zero i = tt
+  own-levels l (suc j) i = all-append Own (map (read-point e) (point-chain e l i)) (all-points (read-levels e l j (suc i))) (own-chain (point-chain e l i)) (own-levels l j (suc i))
+
+  own-back : (xs : List (Point ℕ ℕ)) → All Own xs → map (read-point e) (point-slots xs) ≡ xs
+  unfolding Own
+  own-back [] a = refl
+  own-back (x ∷ xs) a = ap (λ y. y ∷ map (read-point e) (point-slots xs)) (a .0) ∙ ap (_∷_ x) (own-back xs (a .1))
+
+  -- A put's slot has kind 1.
+  put-kind : (s : ℕ) → is-put (read-point e s .entry) ≡ true → kind-of e s ≡ 1
+  put-kind s h = by-cases (eqb (kind-of e s) 1) (λ y. eqb-true (kind-of e s) 1 y) (λ n. absurd (false≢true (rw n at h)))
+
+  kind-put : (s : ℕ) → kind-of e s ≡ 1 → is-put (read-point e s .entry) ≡ true
+  kind-put s h = rw (eq-eqb (kind-of e s) 1 h)
+
+  put-kinds : (ss : List ℕ) → AllPuts (map (read-point e) ss) → All (λ s. kind-of e s ≡ 1) ss
+  put-kinds [] a = tt
+  put-kinds (s ∷ ss) a = (put-kind s (a .0), put-kinds ss (a .1))
+
+  -- A slot that alone has its docket decides it.
+  find-own : (i : ℕ) (ss : List ℕ) → kind-of e i ≡ 1 → 1 ≤ times i ss → count (λ s. eqb (lo-of e s) (lo-of e i)) ss ≤ 1
+      → find (map (read-point e) ss) (lo-of e i) absent ≡ model.found (tally-of e i) (stamp-of e i)
+  unfolding find count
+  find-own i [] q h c = absurd (omega arith)
+  find-own i (s ∷ ss) q h c = go (ℕ-discrete i s) (eqb (lo-of e s) (lo-of e i)) refl c (find-own i ss q)
+    where
+      go : Dec (i ≡ s) → (b : Bool) → eqb (lo-of e s) (lo-of e i) ≡ b → cond b 1 0 + count (λ s. eqb (lo-of e s) (lo-of e i)) ss ≤ 1
+          → (1 ≤ times i ss → count (λ s. eqb (lo-of e s) (lo-of e i)) ss ≤ 1 → find (map (read-point e) ss) (lo-of e i) absent ≡ model.found (tally-of e i) (stamp-of e i))
+          → cond b (reads (read-point e s .entry) (stamp-of e s)) (find (map (read-point e) ss) (lo-of e i) absent) ≡ model.found (tally-of e i) (stamp-of e i)
+      go (yes r) true g m ih = ap (λ x. reads (read-point e x .entry) (stamp-of e x)) (sym r) ∙ rw (eq-eqb (kind-of e i) 1 q)
+      go (yes r) false g m ih = absurd (eqb-false (lo-of e s) (lo-of e i) g (ap (lo-of e) (sym r)))
+      go (no r) true g m ih =
+          absurd (omega (arith, m, h, times-other i s ss r, count-one (λ s. eqb (lo-of e s) (lo-of e i)) i (eq-eqb (lo-of e i) (lo-of e i) refl) ss))
+      go (no r) false g m ih = ih (omega (arith, h, times-other i s ss r)) (omega (arith, m))
+
+module _ (w : Tables) (sound : table-refusal (w .entries) (w .levels) ≡ 0) (formed : Formed (slots-of (w .entries)) (read-state (w .entries) (w .levels))) where
+  abbrev e : List ℕ
+  e = w .entries
+
+  abbrev n : ℕ
+  n = slots-of (w .entries)
+
+  abbrev p : State ℕ ℕ
+  p = read-state (w .entries) (w .levels)
+
+  abbrev points : List (Point ℕ ℕ)
+  points = all-points (p .levels)
+
+  abbrev ss : List ℕ
+  ss = point-slots points
+
+  look : (k : ℕ) → k ≤ 65535 → lookup-tables e (w .levels) k ≡ answered (lookup (p .levels) k)
+  unfolding lookup-tables
+  look k h = rw (sound, le-ltb 65535 k h, le-ltb k k (omega arith))
+
+  lo-small : (s : ℕ) → lo-of e s ≤ 65535
+  lo-small s = omega arith
+
+  own : map (read-point e) ss ≡ points
+  unfolding read-state
+  own = own-back e points (own-levels e (w .levels) (suc (settings-of (w .levels) .deepest)) 0)
+
+  keys-counted : (k : ℕ) → count (λ (x : Point ℕ ℕ). eqb (x .key) k) points ≡ count (λ s. eqb (lo-of e s) k) ss
+  keys-counted k = ap (count (λ (x : Point ℕ ℕ). eqb (x .key) k)) (sym own) ∙ count-map (read-point e) (λ (x : Point ℕ ℕ). eqb (x .key) k) ss
+
+  form : Whole n p
+  form = whole n p formed
+
+  -- Where no slot is free and all records are puts, every slot is a put's.
+  module _ (free : p .free ≡ []) (puts : All PutsOnly (p .levels)) where
+    once : OnceFacts n ss
+    once =
+        subst (OnceFacts n) (ap (λ f. f ++ levels-slots (p .levels)) free ∙ slots-points (p .levels) puts)
+        (once-facts n (p .free ++ levels-slots (p .levels)) (formed .slots-once))
+
+    stands : (i : ℕ) → IsSlot w i → 1 ≤ times i ss
+    stands i h = omega (arith, once .each i (h .0) (h .1))
+
+    slots-inside : All (Inside n) ss
+    slots-inside = once-inside n ss once
+
+  -- Refused 7: every slot holds a different live docket.
+  module _ (t k a : ℕ) (full : no-slot t (put k a) p ≡ true) where
+    puts : All PutsOnly (p .levels)
+    puts = full-puts n p form t k a full
+
+    free : p .free ≡ []
+    free = full-free n p form t k a full
+
+    kind : (i : ℕ) → IsSlot w i → kind-of e i ≡ 1
+    kind i h = all-there (λ s. kind-of e s ≡ 1) ss i (put-kinds e ss (subst AllPuts (sym own) (all-put (p .levels) puts))) (stands free puts i h)
+
+    single : (j : ℕ) → count (λ s. eqb (lo-of e s) j) ss ≤ 1
+    single j = omega (arith, keys-counted j, full-once n p form t k a full j)
+
+    holds : (i : ℕ) → IsSlot w i → HoldsLive w i
+    holds i h = record {
+      is-put = kind i h;
+      found = look (lo-of e i) (lo-small i)
+          ∙ ap answered (lookup-points (p .levels) (lo-of e i) puts ∙ ap (λ ps. find ps (lo-of e i) absent) (sym own)
+          ∙ find-own e i ss (kind i h) (stands free puts i h) (single (lo-of e i)));
+    }
+
+    apart : (i j : ℕ) → IsSlot w i → IsSlot w j → lo-of e i ≡ lo-of e j → Dec (i ≡ j) → i ≡ j
+    apart i j h g q (yes r) = r
+    apart i j h g q (no r) =
+        let same : ℕ → Bool = λ s. eqb (lo-of e s) (lo-of e i) in
+        absurd (omega (
+          arith,
+          count-two same i (eq-eqb (lo-of e i) (lo-of e i) refl) j (eq-eqb (lo-of e j) (lo-of e i) (sym q)) r ss,
+          single (lo-of e i),
+          stands free puts i h,
+          stands free puts j g,
+        ))
+
+    pub full-slots : SlotsLive k w
+    full-slots = record {
+      every = holds;
+      different = λ i j h g q. apart i j h g q (ℕ-discrete i j);
+      without = λ i h q.
+          omega (arith, count-one (λ s. eqb (lo-of e s) k) i (eq-eqb (lo-of e i) k q) ss, stands free puts i h, keys-counted k, full-lacks n p form t k a full);
+    }
+
+  -- And back: merging frees nothing.
+  module _ (k : ℕ) (live : SlotsLive k w) where
+    facts : Sound e (w .levels)
+    facts = sound-facts e (w .levels) sound
+
+    no-chain : (rs : List ℕ) → All (Inside n) rs → All (λ s. kind-of e s ≢ 1) rs → rs ≡ []
+    no-chain [] i a = refl
+    no-chain (s ∷ rs) i a = absurd (a .0 (live .every s (i .0) .is-put))
+
+    none-free : p .free ≡ []
+    unfolding read-state
+    none-free =
+        no-chain (free-chain e) (free-ends e (w .levels) facts .inside)
+        (all-weaken _ _ (λ s g q. omega (arith, ap (λ (r : Slot). r .link) g, q)) (free-chain e) (free-slots-blank e (w .levels) sound))
+
+    range-kind : (s : ℕ) → is-range e s ≡ true → kind-of e s ≢ 1
+    range-kind s h q =
+        let three = and-right (leb (lo-of e s) (hi-of e s)) (eqb (kind-of e s) 3 && eqb (tally-of e s) 0) h in
+        omega (arith, q, eqb-true (kind-of e s) 3 (and-left (eqb (kind-of e s) 3) (eqb (tally-of e s) 0) three))
+
+    no-ranges : (i : ℕ) → i ≤ settings-of (w .levels) .deepest → range-chain e (w .levels) i ≡ []
+    no-ranges i h =
+        no-chain (range-chain e (w .levels) i) (ranges-end e (w .levels) facts i h .inside)
+        (all-weaken _ _ range-kind (range-chain e (w .levels) i) (facts .levels i h .range-forms))
+
+    chain-puts : (rs : List ℕ) → All (Inside n) rs → AllPuts (map (read-point e) rs)
+    chain-puts [] i = tt
+    chain-puts (s ∷ rs) i = (kind-put e s (live .every s (i .0) .is-put), chain-puts rs (i .1))
+
+    levels-puts : (j i : ℕ) → i + j ≤ suc (settings-of (w .levels) .deepest) → All PutsOnly (read-levels e (w .levels) j i)
+    unfolding read-levels
+    levels-puts zero i h = tt
+    levels-puts (suc j) i h =
+        let deep : i ≤ settings-of (w .levels) .deepest = omega (arith, h) in (
+          (chain-puts (point-chain e (w .levels) i) (points-end e (w .levels) facts i deep .inside), ap (map (read-range e)) (no-ranges i deep)),
+          levels-puts j (suc i) (omega (arith, h)),
+        )
+
+    all-puts : All PutsOnly (p .levels)
+    unfolding read-state
+    all-puts = levels-puts (suc (settings-of (w .levels) .deepest)) 0 (omega arith)
+
+    repeated : (s : ℕ) (rs : List ℕ) → Inside n s → All (Inside n) rs → any (eqb (lo-of e s)) (map (lo-of e) rs) ≡ true → 1 ≤ times s rs
+    unfolding any count
+    repeated s [] i a h = absurd (false≢true h)
+    repeated s (r ∷ rs) i a h = go (eqb (lo-of e s) (lo-of e r)) refl h (repeated s rs i (a .1))
+      where
+        go : (b : Bool) → eqb (lo-of e s) (lo-of e r) ≡ b → b || (any (eqb (lo-of e s)) (map (lo-of e) rs)) ≡ true
+            → (any (eqb (lo-of e s)) (map (lo-of e) rs) ≡ true → 1 ≤ times s rs) → 1 ≤ times s (r ∷ rs)
+        go true g m ih =
+            let q : s ≡ r = live .different s r i (a .0) (eqb-true (lo-of e s) (lo-of e r) g) in
+            omega (arith, ap (λ x. times s (x ∷ rs)) q, times-head s rs)
+        go false g m ih = omega (arith, ih m)
+
+    -- The dockets of the slots, each another.
+    distinct : (rs : List ℕ) → All (Inside n) rs → ((s : ℕ) → times s rs ≤ 1) → Distinct (map (lo-of e) rs)
+    unfolding count
+    distinct [] a o = tt
+    distinct (s ∷ rs) a o = (
+      by-cases (any (eqb (lo-of e s)) (map (lo-of e) rs)) (λ y. absurd (omega (arith, repeated s rs (a .0) (a .1) y, o s, times-head s rs))) (λ x. x),
+      distinct rs (a .1) (λ r. omega (arith, o r)),
+    )
+
+    -- What merging leaves.
+    abbrev left : List (Point ℕ ℕ)
+    left = bottom n p form .points
+
+    abbrev left-keys : List ℕ
+    left-keys = map (λ (q : Point ℕ ℕ). q .key) left
+
+    -- A lookup finds each of them, before merging and after.
+    named : (s : ℕ) → Inside n s → names left (lo-of e s) ≡ true
+    named s i =
+        let before : model.is-found (lookup (p .levels) (lo-of e s)) ≡ true =
+        sym (found-is (lookup (p .levels) (lo-of e s))) ∙ ap finds (sym (look (lo-of e s) (lo-small s)) ∙ live .every s i .found) ∙ (unfold finds in refl) in
+        found-named left (lo-of e s)
+        (ap model.is-found (sym (bottom n p form .finds (lo-of e s)) ∙ merge-all-lookup p (lo-of e s) (form .formed)) ∙ before)
+
+    all-named : (rs : List ℕ) → All (Inside n) rs
+        → All (λ x. any (eqb x) left-keys ≡ true) (map (lo-of e) rs)
+    all-named [] a = tt
+    all-named (s ∷ rs) a = (
+      any-map (λ (q : Point ℕ ℕ). q .key) (eqb (lo-of e s)) left
+          ∙ any-same (λ q. eqb (lo-of e s) (q .key)) (λ q. eqb (q .key) (lo-of e s)) (λ q. eqb-sym (lo-of e s) (q .key)) left ∙ named s (a .0),
+      all-named rs (a .1),
+    )
+
+    remain : n ≤ length left
+    remain =
+        let o = once none-free all-puts in
+        let inside = slots-inside none-free all-puts in
+        omega (
+          arith,
+          pigeonhole (map (lo-of e) ss) left-keys (distinct ss inside (once-most n ss o)) (all-named ss inside),
+          length-map ss (lo-of e),
+          length-map left (λ (q : Point ℕ ℕ). q .key),
+          o .number,
+        )
+
+    uncounted : (rs : List ℕ) → All (Inside n) rs → count (λ s. eqb (lo-of e s) k) rs ≡ 0
+    unfolding count
+    uncounted [] a = refl
+    uncounted (s ∷ rs) a = rw (ne-eqb (lo-of e s) k (live .without s (a .0))) (omega (arith, uncounted rs (a .1)))
+
+    lacking : names left k ≡ false
+    lacking =
+        let test : Point ℕ ℕ → Bool = λ q. eqb (q .key) k in
+        none-counted test left (omega (
+          arith,
+          merge-all-counts test p (form .formed),
+          ap (count test) (bottom n p form .are),
+          keys-counted k,
+          uncounted ss (slots-inside none-free all-puts),
+        ))
+
+    pub slots-full : (t a : ℕ) → no-slot t (put k a) p ≡ true
+    slots-full t a = live-full n p form k (live-slots n p form k (omega (arith, remain, bottom n p form .counted)) lacking) t a
+
+  -- The clock of what the tables read as is their own.
+  clock-is : p .clock ≡ clock-of e
+  unfolding read-state
+  clock-is = refl
+
+  seven : (b : Bool) → _≡_ {A = ℕ} (cond b 7 0) 7 → b ≡ true
+  seven true q = refl
+  seven false q = absurd (omega arith)
+
+  pub full-of-formed : (t k a : ℕ) → k ≤ 65535 → bad-clock t (clock-of (w .entries)) ≡ false
+      → (call-tables w (record { clock = t; op = written (put k a) }) .answer .refusal ≡ 7) ↔ SlotsLive k w
+  full-of-formed t k a h b =
+      let number : call-tables w (record { clock = t; op = written (put k a) }) .answer .refusal ≡ cond (no-slot t (put k a) p) 7 0 =
+      refused-exactly w (record { clock = t; op = written (put k a) }) ∙ rw (sound, le-ltb 65535 k h, clock-is, b) in (
+        λ q. full-slots t k a (seven (no-slot t (put k a) p) (sym number ∙ q)),
+        λ live. number ∙ ap (λ x. cond x 7 0) (slots-full k live t a),
+      )
+
+pub full-exactly : (w : Tables) → Fits32 (w .entries) → table-refusal (w .entries) (w .levels) ≡ 0
+    → (t k a : ℕ) → k ≤ 65535 → bad-clock t (clock-of (w .entries)) ≡ false
+    → (call-tables w (record { clock = t; op = written (put k a) }) .answer .refusal ≡ 7) ↔ SlotsLive k w
+full-exactly w fits sound = full-of-formed w sound (sound-words (w .entries) (w .levels) fits sound .formed)
