@@ -8,33 +8,39 @@ use native.Mathlib.Omega.{arith}
 use native.Mathlib.Decide.{ℕ-discrete}
 use lib.Dec.{eqb, leb}
 use lib.ListN.{length, length-map}
-use borrow.Author.Tests.{eqb-true, eqb-false, eq-eqb, ne-eqb, le-ltb}
+use borrow.Author.Tests.{eqb-true, eq-eqb, ne-eqb, le-ltb}
 use Rattle.lists.specs.Lists.{any, count}
 use Rattle.lists.specs.All.{All}
 use Rattle.lists.proofs.Bools.{by-cases, and-left, and-right, eqb-sym}
-use Rattle.lists.proofs.Tests.{all-append, all-weaken, any-map, any-same}
+use Rattle.lists.proofs.Tests.{all-weaken, any-map, any-same}
+use Rattle.lists.proofs.Counts.{count-map, none-counted}
 use Rattle.lists.proofs.Counting.{Distinct, pigeonhole}
 use Rattle.model.specs.Records.{Point, State, is-put}
 use Rattle.model.specs.Merge.{names, point-slots}
 use Rattle.model.specs.Steps.{put, no-slot}
 use Rattle.model.specs.Calls.{written, bad-clock}
 use Rattle.model.specs.Lookup as model
-use Rattle.model.specs.Lookup.{absent, reads, find, lookup}
+use Rattle.model.specs.Lookup.{absent, find, lookup}
 use Rattle.model.specs.Live.{all-points}
 use Rattle.model.proofs.LookupSteps.{merge-all-lookup}
 use Rattle.model.proofs.Slots.{Whole}
+use Rattle.model.proofs.Passing.{merge-all-counts}
+use Rattle.model.proofs.Puts.{PutsOnly, all-put, lookup-points, full-puts, full-free, full-once, full-lacks}
 use Rattle.model.proofs.Full.{AllPuts, bottom, found-named, live-slots, live-full}
 use Rattle.tables.specs.Words.{Fits32}
-use Rattle.tables.specs.Slots.{Slot, slots-of, kind-of, lo-of, hi-of, tally-of, stamp-of, clock-of}
+use Rattle.tables.specs.Slots.{Slot, slots-of, kind-of, lo-of, hi-of, tally-of, clock-of}
 use Rattle.tables.specs.Rows.{settings-of}
 use Rattle.tables.specs.Sound.{free-chain, point-chain, range-chain, is-range, table-refusal}
 use Rattle.tables.specs.Placed.{read-point, read-range, read-levels, read-state}
 use Rattle.tables.specs.Formed.{levels-slots, Formed}
-use Rattle.tables.proofs.Cells.{times, times-head, times-other}
+use Rattle.tables.proofs.Cells.{times, times-head}
 use Rattle.tables.proofs.Once.{Inside, OnceFacts, once-facts, once-inside, once-most}
 use Rattle.tables.proofs.Remains.{free-slots-blank}
 use Rattle.tables.proofs.SoundWords.{Sound, sound-facts}
 use Rattle.tables.proofs.SoundChains.{free-ends, points-end, ranges-end}
+use Rattle.tables.proofs.Whole.{whole}
+use Rattle.tables.proofs.SlotLists.{all-there, count-one, count-two}
+use Rattle.tables.proofs.ReadPoints.{slots-points, own-levels, own-back, kind-put, put-kinds, find-own}
 use Rattle.tables.proofs.FormedSound.{sound-words}
 use Rattle.lookup.specs.Lookup.{answered, lookup-tables}
 use Rattle.lookup.specs.declared.Answer.{Answer}
@@ -42,9 +48,6 @@ use Rattle.lookup.specs.declared.Answer.the-variants.{Refused, Absent, Found}
 use Rattle.call_tables.specs.Calls.{Tables, call-tables}
 use Rattle.call_tables.proofs.Refusals.{refused-exactly}
 use Rattle.demands.specs.Full.{IsSlot, HoldsLive, SlotsLive}
-use Rattle.demands.proofs.Whole.{whole}
-use Rattle.demands.proofs.SlotLists.{count-map, none-counted, all-there, count-one, count-two}
-use Rattle.demands.proofs.Puts.{merge-all-counts, PutsOnly, all-put, slots-points, lookup-points, full-puts, full-free, full-once, full-lacks}
 
 finds : Answer → Bool
 finds (Refused n) = false
@@ -55,53 +58,6 @@ found-is : (f : model.Found ℕ) → finds (answered f) ≡ model.is-found f
 unfolding finds
 found-is model.absent = refl
 found-is (model.found a t) = refl
-
--- Points that are what their slots read.
-module _ (e : List ℕ) where
-  Own : Point ℕ ℕ → Type 0
-  Own x = read-point e (x .slot) ≡ x
-
-  own-chain : (ss : List ℕ) → All Own (map (read-point e) ss)
-  unfolding Own
-  own-chain [] = tt
-  own-chain (s ∷ ss) = (refl, own-chain ss)
-
-  own-levels : (l : List ℕ) (j i : ℕ) → All Own (all-points (read-levels e l j i))
-  unfolding read-levels
-  own-levels l zero i = tt
-  own-levels l (suc j) i = all-append Own (map (read-point e) (point-chain e l i)) (all-points (read-levels e l j (suc i))) (own-chain (point-chain e l i)) (own-levels l j (suc i))
-
-  own-back : (xs : List (Point ℕ ℕ)) → All Own xs → map (read-point e) (point-slots xs) ≡ xs
-  unfolding Own
-  own-back [] a = refl
-  own-back (x ∷ xs) a = ap (λ y. y ∷ map (read-point e) (point-slots xs)) (a .0) ∙ ap (_∷_ x) (own-back xs (a .1))
-
-  -- A put's slot has kind 1.
-  put-kind : (s : ℕ) → is-put (read-point e s .entry) ≡ true → kind-of e s ≡ 1
-  put-kind s h = by-cases (eqb (kind-of e s) 1) (λ y. eqb-true (kind-of e s) 1 y) (λ n. absurd (false≢true (rw n at h)))
-
-  kind-put : (s : ℕ) → kind-of e s ≡ 1 → is-put (read-point e s .entry) ≡ true
-  kind-put s h = rw (eq-eqb (kind-of e s) 1 h)
-
-  put-kinds : (ss : List ℕ) → AllPuts (map (read-point e) ss) → All (λ s. kind-of e s ≡ 1) ss
-  put-kinds [] a = tt
-  put-kinds (s ∷ ss) a = (put-kind s (a .0), put-kinds ss (a .1))
-
-  -- A slot that alone has its docket decides it.
-  find-own : (i : ℕ) (ss : List ℕ) → kind-of e i ≡ 1 → 1 ≤ times i ss → count (λ s. eqb (lo-of e s) (lo-of e i)) ss ≤ 1
-      → find (map (read-point e) ss) (lo-of e i) absent ≡ model.found (tally-of e i) (stamp-of e i)
-  unfolding find count
-  find-own i [] q h c = absurd (omega arith)
-  find-own i (s ∷ ss) q h c = go (ℕ-discrete i s) (eqb (lo-of e s) (lo-of e i)) refl c (find-own i ss q)
-    where
-      go : Dec (i ≡ s) → (b : Bool) → eqb (lo-of e s) (lo-of e i) ≡ b → cond b 1 0 + count (λ s. eqb (lo-of e s) (lo-of e i)) ss ≤ 1
-          → (1 ≤ times i ss → count (λ s. eqb (lo-of e s) (lo-of e i)) ss ≤ 1 → find (map (read-point e) ss) (lo-of e i) absent ≡ model.found (tally-of e i) (stamp-of e i))
-          → cond b (reads (read-point e s .entry) (stamp-of e s)) (find (map (read-point e) ss) (lo-of e i) absent) ≡ model.found (tally-of e i) (stamp-of e i)
-      go (yes r) true g m ih = ap (λ x. reads (read-point e x .entry) (stamp-of e x)) (sym r) ∙ rw (eq-eqb (kind-of e i) 1 q)
-      go (yes r) false g m ih = absurd (eqb-false (lo-of e s) (lo-of e i) g (ap (lo-of e) (sym r)))
-      go (no r) true g m ih =
-          absurd (omega (arith, m, h, times-other i s ss r, count-one (λ s. eqb (lo-of e s) (lo-of e i)) i (eq-eqb (lo-of e i) (lo-of e i) refl) ss))
-      go (no r) false g m ih = ih (omega (arith, h, times-other i s ss r)) (omega (arith, m))
 
 module _ (w : Tables) (sound : table-refusal (w .entries) (w .levels) ≡ 0) (formed : Formed (slots-of (w .entries)) (read-state (w .entries) (w .levels))) where
   abbrev e : List ℕ

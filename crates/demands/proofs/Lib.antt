@@ -1,7 +1,4 @@
 -- What is proved of sound tables and of every list of calls from a fresh store; the last file has the demands.
-pub mod SlotLists
-pub mod Whole
-pub mod Puts
 pub mod Full
 pub mod Merged
 pub mod Made

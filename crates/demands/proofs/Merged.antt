@@ -22,13 +22,13 @@ use Rattle.tables.specs.Formed.{Formed}
 use Rattle.tables.proofs.Rows.{settings-back, level-row-at}
 use Rattle.tables.proofs.Back.{written-reads}
 use Rattle.tables.proofs.FormedSound.{words-sound, sound-words}
+use Rattle.tables.proofs.Whole.{in-form}
 use Rattle.tables.proofs.FormedSteps.{merge-all-formed}
 use Rattle.lookup.specs.Lookup.{lookup-tables}
 use Rattle.scan.specs.declared.Row.{Row}
 use Rattle.scan.specs.Scan.{scan-tables}
 use Rattle.call_tables.specs.Calls.{Tables, call-tables, merged-tables}
 use Rattle.call_tables.proofs.Refusals.{refused-7-leaves, refused-7-sound}
-use Rattle.demands.proofs.Whole.{in-form}
 
 only-empty : {S A : Type 0} (n i : ℕ) (l : Level S A) → i < n → getD (only n l) i empty ≡ empty
 only-empty zero i l h = absurd (omega arith)

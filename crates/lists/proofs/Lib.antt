@@ -5,3 +5,4 @@ pub mod Branches
 pub mod Merges
 pub mod Loops
 pub mod Counting
+pub mod Counts

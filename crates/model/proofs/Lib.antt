@@ -15,7 +15,9 @@ pub mod Counted
 pub mod Lookups
 pub mod Deepest
 pub mod LookupSteps
+pub mod Passing
 pub mod Full
+pub mod Puts
 pub mod PlainMaps
 pub mod Marks
 pub mod Sinking

@@ -18,3 +18,6 @@ pub mod SoundChains
 pub mod Deepest
 pub mod FormedLevels
 pub mod FormedSteps
+pub mod Whole
+pub mod SlotLists
+pub mod ReadPoints

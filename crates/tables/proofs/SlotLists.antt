@@ -2,30 +2,15 @@
 use mathlib.Core.Path.{_≡_, refl, sym, ap, subst, _∙_}
 use mathlib.Core.Logic.{_≢_}
 use mathlib.Core.Bool.{Bool, true, false, cond}
-use mathlib.Core.List.{List, [], _∷_, map}
+use mathlib.Core.List.{List, [], _∷_}
 use Prim.Native.Nat.{ℕ, _+_, _≤_}
 use native.Mathlib.Omega.{arith}
 use native.Mathlib.Decide.{ℕ-discrete}
 use lib.Dec.{eqb}
 use borrow.Author.Tests.{eqb-true}
-use Rattle.lists.specs.Lists.{any, count}
+use Rattle.lists.specs.Lists.{count}
 use Rattle.lists.specs.All.{All}
-use Rattle.lists.proofs.Bools.{or-false-intro}
 use Rattle.tables.proofs.Cells.{times, times-other}
-
-pub count-map : {X Y : Type 0} (f : X → Y) (t : Y → Bool) (xs : List X) → count t (map f xs) ≡ count (λ x. t (f x)) xs
-unfolding count
-count-map f t [] = refl
-count-map f t (x ∷ xs) = rw (count-map f t xs)
-
-pub none-counted : {X : Type 0} (t : X → Bool) (xs : List X) → count t xs ≡ 0 → any t xs ≡ false
-unfolding any count
-none-counted t [] h = refl
-none-counted t (x ∷ xs) h = go (t x) refl h (none-counted t xs)
-  where
-    go : (b : Bool) → t x ≡ b → cond b 1 0 + count t xs ≡ 0 → (count t xs ≡ 0 → any t xs ≡ false) → any t (x ∷ xs) ≡ false
-    go true e g ih = absurd (omega arith)
-    go false e g ih = or-false-intro (t x) (any t xs) e (ih (omega arith))
 
 -- What all of a list have, each slot has that stands there.
 pub all-there : (R : ℕ → Type 0) (ss : List ℕ) (i : ℕ) → All R ss → 1 ≤ times i ss → R i
