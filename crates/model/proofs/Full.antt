@@ -5,27 +5,27 @@ use mathlib.Core.List.{List, [], _∷_, append-nil}
 use Prim.Native.Nat.{ℕ, zero, suc, _+_, _≤_, _<_}
 use native.Mathlib.Omega.{arith}
 use lib.Dec.{eqb}
-use lib.ListN.{length, getD, set, length-set}
-use lib.Seq.{getD-set-other}
+use lib.ListN.{length, getD}
 use borrow.Author.Tests.{eq-eqb, not-true}
-use Rattle.lists.specs.Lists.{count, none, any, reject, sum}
+use Rattle.lists.specs.Lists.{count, none, any, sum}
 use Rattle.lists.specs.All.{All, Ascending}
 use Rattle.lists.proofs.Bools.{cond-same, by-cases, and-left, and-right, and-intro, or-left, or-right, or-false, eqb-sym}
 use Rattle.lists.proofs.Tests.{none-of-length, length-of-none, all-weaken, all-selected, any-same, select-none, select-never}
-use Rattle.lists.proofs.Counting.{count-merge, count-most, count-select, sum-set, sum-le}
+use Rattle.lists.proofs.Counting.{count-most, sum-le}
 use Rattle.model.specs.Records.{Entry, value, tombstone, Point, Level, State, is-put, empty, level, held, held-all}
-use Rattle.model.specs.Merge.{covered, names, point-before, range-goes, point-goes, merged, settled, joined}
-use Rattle.model.specs.Steps.{put, single, unplaced, merge-state, merge-all, displaced, crowded, full, no-slot}
+use Rattle.model.specs.Merge.{covered, names, point-before, range-goes, point-goes, settled}
+use Rattle.model.specs.Steps.{put, single, unplaced, merge-all, displaced, crowded, full, no-slot}
 use Rattle.model.specs.Lookup.{Found, absent, reads, is-found, find, lookup}
 use Rattle.model.specs.Live.{all-points, SlotsLive}
 use Rattle.model.specs.Calls.{tick}
 use Rattle.model.proofs.Keeps.{merge-all-keeps}
-use Rattle.model.proofs.Form.{Formed, formed-kept, level-ordered}
+use Rattle.model.proofs.Form.{Formed, level-ordered}
 use Rattle.model.proofs.Slots.{Whole, whole-kept}
 use Rattle.model.proofs.Numbers.{merge-all-free}
 use Rattle.model.proofs.Lookups.{find-unnamed}
 use Rattle.model.proofs.Deepest.{only, only-level, lookup-only, held-only, Drained, merge-all-drained}
 use Rattle.model.proofs.LookupSteps.{merge-all-lookup}
+use Rattle.model.proofs.Passing.{merge-all-passing}
 
 put-found : {A : Type 0} (e : Entry A) (t : ℕ) → is-put e ≡ true → is-found (reads e t) ≡ true
 put-found (value a) t h = refl
@@ -73,45 +73,11 @@ module _ {S A : Type 0} where
   abbrev pub puts-of : Level S A → ℕ
   puts-of l = count (λ p. is-put (p .entry)) (l .points)
 
-  puts-held : (l : Level S A) → puts-of l ≤ held l
+  pub puts-held : (l : Level S A) → puts-of l ≤ held l
   puts-held l = omega (arith, count-most (λ p. is-put (p .entry)) (l .points))
 
-  puts-merged : (u l : Level S A) → puts-of (merged u l) ≤ puts-of u + puts-of l
-  unfolding merged
-  puts-merged u l = omega (
-    arith,
-    count-merge (λ p. is-put (p .entry)) point-before (u .points) (reject (point-goes u) (l .points)),
-    count-select (λ p. is-put (p .entry)) (λ p. not (point-goes u p)) (l .points),
-  )
-
-  puts-joined : (b : Bool) (u l : Level S A) → puts-of (joined b u l) ≤ puts-of u + puts-of l
-  unfolding joined settled
-  puts-joined true u l = omega (arith, count-select (λ p. is-put (p .entry)) (λ p. is-put (p .entry)) (merged u l .points), puts-merged u l)
-  puts-joined false u l = puts-merged u l
-
-  merge-puts : (i : ℕ) (s : State S A) → suc i < length (s .levels) → sum puts-of (merge-state i s .levels) ≤ sum puts-of (s .levels)
-  unfolding merge-state
-  merge-puts i s h =
-      let b : Bool = eqb (suc i) (s .settings .deepest) in
-      let v : Level S A = joined b (level i s) (level (suc i) s) in
-      let no-puts : puts-of empty ≡ 0 = unfold count in refl in
-      omega (
-        arith,
-        sum-set puts-of (s .levels) i empty empty (omega arith),
-        no-puts,
-        sum-set puts-of (set (s .levels) i empty) (suc i) v empty (omega (arith, length-set (s .levels) i empty)),
-        ap puts-of (getD-set-other (s .levels) i (suc i) empty empty (omega arith)),
-        puts-joined b (level i s) (level (suc i) s),
-      )
-
-  -- A store in form with at most m puts.
-  Most : ℕ → State S A → Type 0
-  Most m s = Formed s × (sum puts-of (s .levels) ≤ m)
-
   merge-all-puts : (s : State S A) → Formed s → sum puts-of (merge-all s .state .levels) ≤ sum puts-of (s .levels)
-  unfolding Most
-  merge-all-puts s f = merge-all-keeps (Most (sum puts-of (s .levels))) (λ x p. omega (arith, p .0 .deep))
-      (λ i x h p. (formed-kept (record { clock = 0; op = tick }) .merging i x h (p .0), omega (arith, merge-puts i x (omega (arith, p .0 .size))))) s (f, omega arith) .0 .1
+  merge-all-puts s f = merge-all-passing (λ p. is-put (p .entry)) s f
 
   merge-all-whole : (n : ℕ) (s : State S A) → Whole n s → Whole n (merge-all s .state)
   merge-all-whole n s f = merge-all-keeps (Whole n) (whole-kept n (record { clock = 0; op = tick }) .deep) (whole-kept n (record { clock = 0; op = tick }) .merging) s f .0

@@ -19,7 +19,7 @@ use Rattle.model.proofs.Form.{Formed, formed-kept}
 
 -- The points that pass a test, of a level and of all levels; no merge makes more of them.
 module _ {S A : Type 0} (q : Point S A → Bool) where
-  abbrev passing : Level S A → ℕ
+  abbrev pub passing : Level S A → ℕ
   passing l = count q (l .points)
 
   passing-merged : (u l : Level S A) → passing (merged u l) ≤ passing u + passing l
@@ -54,7 +54,7 @@ module _ {S A : Type 0} (q : Point S A → Bool) where
   Most : ℕ → State S A → Type 0
   Most m s = Formed s × (sum passing (s .levels) ≤ m)
 
-  merge-all-passing : (s : State S A) → Formed s → sum passing (merge-all s .state .levels) ≤ sum passing (s .levels)
+  pub merge-all-passing : (s : State S A) → Formed s → sum passing (merge-all s .state .levels) ≤ sum passing (s .levels)
   unfolding Most
   merge-all-passing s f = merge-all-keeps (Most (sum passing (s .levels))) (λ x p. omega (arith, p .0 .deep))
       (λ i x h p. (formed-kept (record { clock = 0; op = tick }) .merging i x h (p .0), omega (arith, merge-passing i x (omega (arith, p .0 .size))))) s (f, omega arith) .0 .1

@@ -18,7 +18,7 @@ use Rattle.model.specs.Steps.{put, merge-all, no-slot}
 use Rattle.model.specs.Lookup.{Found, absent, find, lookup}
 use Rattle.model.specs.Live.{all-points, SlotsLive}
 use Rattle.model.proofs.Slots.{Whole}
-use Rattle.model.proofs.Full.{AllPuts, puts-of, bottom, full-live}
+use Rattle.model.proofs.Full.{AllPuts, puts-of, puts-held, bottom, full-live}
 use Rattle.model.proofs.Passing.{merge-all-counts}
 
 module _ {S A : Type 0} where
@@ -42,9 +42,6 @@ module _ {S A : Type 0} where
   -- A level of puts alone.
   abbrev pub PutsOnly : Level S A → Type 0
   PutsOnly l = AllPuts (l .points) × (l .ranges ≡ [])
-
-  puts-held : (l : Level S A) → puts-of l ≤ held l
-  puts-held l = omega (arith, count-most (λ p. is-put (p .entry)) (l .points))
 
   -- Where there are as many puts as records, there is nothing else.
   puts-only : (ls : List (Level S A)) → sum held ls ≤ sum puts-of ls → All PutsOnly ls
