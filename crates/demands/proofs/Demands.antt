@@ -18,7 +18,8 @@ use Rattle.tables.specs.Words.{Fits32}
 use Rattle.tables.specs.Slots.{clock-of}
 use Rattle.tables.specs.Rows.{settings-of, level-row, no-row}
 use Rattle.tables.specs.Sound.{table-refusal}
-use Rattle.lookup.specs.Lookup.{answered, lookup-tables}
+use Rattle.lookup.specs.Lookup.{answered, lookup-tables, numbers}
+use Rattle.lookup.proofs.Numbers as lookups
 use Rattle.scan.specs.declared.Row.{Row}
 use Rattle.check_refusal.specs.Dockets.{docket-refusal}
 use Rattle.scan.specs.Scan.{unfilled, filled, scan-tables}
@@ -82,6 +83,15 @@ module _ (w : Tables) where
 
   pub delete-range-never-full : (t lo hi : ℕ) → call-tables w (record { clock = t; op = written (delete-range lo hi) }) .answer .refusal ≢ 7
   delete-range-never-full = refusals.delete-range-never-full w
+
+-- A lookup is refused in exactly the listed cases, by document 01's numbers of its answer; a refusal "gives its number and zeros".
+module _ (e l : List ℕ) (k : ℕ) where
+  pub lookup-refused-exactly : numbers (lookup-tables e l k) .refusal ≡ docket-refusal e l k k
+  lookup-refused-exactly = lookups.refused-exactly e l k
+
+  pub lookup-refused-zeros : docket-refusal e l k k ≢ 0
+      → numbers (lookup-tables e l k) ≡ record { refusal = docket-refusal e l k k; found = 0; tally = 0; stamp = 0 }
+  lookup-refused-zeros = lookups.refused-zeros e l k
 
 -- A scan is refused in exactly the listed cases, and then leaves every row.
 module _ (e l : List ℕ) (lo hi : ℕ) (rows : List Row) where

@@ -1,3 +1,4 @@
--- Laws of the levels and of the refusals.
+-- Laws of the levels, of the refusals and of the answer's numbers.
 pub mod Levels
 pub mod Refused
+pub mod Numbers
