@@ -18,6 +18,7 @@ use Rattle.tables.specs.Words.{Fits32}
 use Rattle.tables.specs.Slots.{clock-of}
 use Rattle.tables.specs.Rows.{settings-of, level-row, no-row}
 use Rattle.tables.specs.Sound.{table-refusal}
+use Rattle.lookup.specs.declared.Answer.the-variants.{Found}
 use Rattle.lookup.specs.Lookup.{answered, lookup-tables, numbers}
 use Rattle.lookup.proofs.Numbers as lookups
 use Rattle.scan.specs.declared.Row.{Row}
@@ -26,11 +27,13 @@ use Rattle.scan.specs.Scan.{unfilled, filled, scan-tables}
 use Rattle.scan.proofs.Words as scans
 use Rattle.call_tables.specs.Calls.{Tables, call-tables, tables-after, answers-tables, made-tables, refusal-number, merged-tables}
 use Rattle.demands.specs.Full.{SlotsLive}
+use Rattle.demands.specs.LastPut.{LastPut}
 use Rattle.call_tables.proofs.Runs as runs
 use Rattle.call_tables.proofs.Refusals as refusals
 use Rattle.demands.proofs.Full as full
 use Rattle.demands.proofs.Merged as merged
 use Rattle.demands.proofs.Made as made
+use Rattle.demands.proofs.LastPuts as puts
 
 -- DEMAND 1, for tables of any content. Each timed call is refused in exactly the listed cases, and a refusal "gives its number and zeros".
 module _ (w : Tables) (c : Call ℕ) where
@@ -121,7 +124,14 @@ module _ (n : ℕ) (s : Settings) (low : 1 ≤ n) (high : n ≤ 65535) (ok : all
       → call-tables (tables-after n s cs) (record { clock = t; op = written (delete-range 0 65535) }) .answer .refusal ≡ 0
   widest-accepted = made.widest-accepted n s low high ok
 
-  -- DEMAND 2: lookups answer as the plain map after the same list.
+  -- DEMAND 2: a lookup finds tally a with stamp t exactly when some call of the list was a put of that docket with a at t, answered 0, and no later call that was
+  -- answered 0 puts the docket or deletes over it.
+  pub found-exactly : (cs : List (Call ℕ)) (k a t : ℕ)
+      → (lookup-tables (tables-after n s cs .entries) (tables-after n s cs .levels) k ≡ Found a t)
+      ↔ LastPut (map (λ (r : Answer). r .refusal) (answers-tables (made-tables n s) cs)) cs k a t
+  found-exactly = puts.found-exactly n s low high ok
+
+  -- So lookups answer as the plain map after the same list.
   pub lookups-as-map : (cs : List (Call ℕ)) (k : ℕ) → k ≤ 65535
       → lookup-tables (tables-after n s cs .entries) (tables-after n s cs .levels) k ≡ answered (get (map-run n no-rows cs .rows) k)
   lookups-as-map = made.lookups-as-map n s low high ok

@@ -2,4 +2,5 @@
 pub mod Full
 pub mod Merged
 pub mod Made
+pub mod LastPuts
 pub mod Demands

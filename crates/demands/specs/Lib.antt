@@ -1,2 +1,3 @@
 -- What the demands say of lookups.
 pub mod Full
+pub mod LastPut

@@ -62,7 +62,7 @@ module _ {A : Type 0} where
       go false false false i h = h
 
   -- A change of the map changes its answers as the call does.
-  get-changed : (t : ℕ) (op : Op A) (rs : List (Row A)) (k : ℕ) → get (changed t op rs) k ≡ after-op t op (get rs) k
+  pub get-changed : (t : ℕ) (op : Op A) (rs : List (Row A)) (k : ℕ) → get (changed t op rs) k ≡ after-op t op (get rs) k
   unfolding changed get
   get-changed t (written (put n a)) rs k = by-cases (eqb n k)
       (λ e. rw e) (λ e. rw e (get-reject (λ j. eqb j n) rs k ∙ rw (eqb-sym k n, e)))

@@ -1,0 +1,180 @@
+-- What a plain map has for a docket is what the last accepted put of it said, if no accepted delete over the docket came after. By induction over the list, for
+-- a map of any rows: what a docket had before the list counts too, as long as no accepted call of the list overrides it.
+use mathlib.Core.Path.{_≡_, refl, sym, ap, _∙_}
+use mathlib.Core.Logic.{_↔_, _⊎_, inl, inr}
+use mathlib.Core.Bool.{true, false}
+use mathlib.Core.List.{List, [], _∷_, map}
+use Prim.Native.Nat.{ℕ, zero, suc, _<_, _≤_}
+use native.Mathlib.Omega.{arith}
+use lib.Dec.{eqb, ltb}
+use borrow.Author.Tests.{eqb-true, eqb-false, eq-eqb, ne-eqb, ltb-false}
+use Rattle.settings.specs.declared.Settings.{Settings}
+use Rattle.settings.specs.Limits.{allowed}
+use Rattle.lists.proofs.Bools.{by-cases, both-false}
+use Rattle.model.specs.Steps.{put, delete, delete-range}
+use Rattle.model.specs.Lookup.{Found, absent, found}
+use Rattle.model.specs.Calls.{Op, written, flush, tick, Call, Answer, bad-docket}
+use Rattle.model.specs.Erasure.{call-at}
+use Rattle.model.specs.PlainMap.{PlainMap, get, map-refusal, map-step, map-run, map-refusals, no-rows}
+use Rattle.model.proofs.LookupSteps.{after-op}
+use Rattle.model.proofs.PlainMaps.{get-changed}
+use Rattle.check_refusal.proofs.Refusals.{allowed-high}
+use Rattle.lookup.specs.declared.Answer.the-variants as answer
+use Rattle.lookup.specs.Lookup.{answered, lookup-tables, numbers}
+use Rattle.lookup.proofs.Numbers.{refused-exactly}
+use Rattle.call_tables.specs.Calls.{made-tables, tables-after, answers-tables}
+use Rattle.demands.proofs.Made.{lookups-as-map, refusals-as-map}
+use Rattle.demands.specs.LastPut.{overrides, refusal-at, LastPut}
+
+-- An accepted call changes the map by its operation; a refused one leaves it.
+step-accepted : (n : ℕ) (m : PlainMap ℕ) (c : Call ℕ) (k : ℕ) → map-refusal n m c ≡ 0
+    → get (map-step n m c .rows) k ≡ after-op (c .clock) (c .op) (get (m .rows)) k
+unfolding map-step
+step-accepted n m c k q = rw (eq-eqb (map-refusal n m c) 0 q) (get-changed (c .clock) (c .op) (m .rows) k)
+
+step-refused : (n : ℕ) (m : PlainMap ℕ) (c : Call ℕ) → (map-refusal n m c ≡ 0 → ⊥) → map-step n m c ≡ m
+unfolding map-step
+step-refused n m c q = rw (ne-eqb (map-refusal n m c) 0 q)
+
+-- What does not override a docket leaves what the map has for it.
+spared : (t : ℕ) (op : Op ℕ) (look : ℕ → Found ℕ) (k : ℕ) → overrides op k ≡ false → after-op t op look k ≡ look k
+spared t (written (put n a)) look k h = rw h
+spared t (written (delete n)) look k h = rw h
+spared t (written (delete-range lo hi)) look k h = rw h
+spared t flush look k h = refl
+spared t tick look k h = refl
+
+-- What overrides it and leaves a value is a put of that docket with that value.
+set-by : (t′ : ℕ) (op : Op ℕ) (look : ℕ → Found ℕ) (k a t : ℕ) → overrides op k ≡ true → after-op t′ op look k ≡ found a t
+    → _≡_ {A = Call ℕ} (record { clock = t′; op = op }) (record { clock = t; op = written (put k a) })
+set-by t′ (written (put n b)) look k a t h q =
+    let is : found b t′ ≡ found a t = rw h at q in
+    let key : n ≡ k = eqb-true n k h in
+    cc
+set-by t′ (written (delete n)) look k a t h q = let no : absent ≡ found a t = rw h at q in cc
+set-by t′ (written (delete-range lo hi)) look k a t h q = let no : absent ≡ found a t = rw h at q in cc
+set-by t′ flush look k a t h q = both-false h refl
+set-by t′ tick look k a t h q = both-false h refl
+
+module _ (n k : ℕ) where
+  -- No accepted call of the list overrides the docket.
+  abbrev Spared : List ℕ → List (Call ℕ) → Type 0
+  Spared rs cs = (j : ℕ) → refusal-at rs j ≡ 0 → overrides (call-at cs j .op) k ≡ false
+
+  step-spared : (m : PlainMap ℕ) (c : Call ℕ) → (map-refusal n m c ≡ 0 → overrides (c .op) k ≡ false) → get (map-step n m c .rows) k ≡ get (m .rows) k
+  step-spared m c h = by-cases (eqb (map-refusal n m c) 0)
+      (λ e. let q = eqb-true (map-refusal n m c) 0 e in step-accepted n m c k q ∙ spared (c .clock) (c .op) (get (m .rows)) k (h q))
+      (λ e. ap (λ (x : PlainMap ℕ). get (x .rows) k) (step-refused n m c (eqb-false (map-refusal n m c) 0 e)))
+
+  run-spared : (m : PlainMap ℕ) (cs : List (Call ℕ)) → Spared (map-refusals n m cs) cs → get (map-run n m cs .rows) k ≡ get (m .rows) k
+  unfolding map-run map-refusals
+  run-spared m [] h = refl
+  run-spared m (c ∷ cs) h = run-spared (map-step n m c) cs (λ j. h (suc j)) ∙ step-spared m c (h 0)
+
+  spared-more : (rs : List ℕ) (cs : List (Call ℕ)) (r : ℕ) (c : Call ℕ) → (r ≡ 0 → overrides (c .op) k ≡ false) → Spared rs cs → Spared (r ∷ rs) (c ∷ cs)
+  spared-more rs cs r c first rest zero q = first q
+  spared-more rs cs r c first rest (suc j) q = rest j q
+
+  module _ (a t : ℕ) where
+    -- The put is the first call and the others spare it, or it is the last put of the others.
+    first-put : {rs : List ℕ} {cs : List (Call ℕ)} (r : ℕ) (c : Call ℕ) → c ≡ record { clock = t; op = written (put k a) } → r ≡ 0 → Spared rs cs
+        → LastPut (r ∷ rs) (c ∷ cs) k a t
+    first-put {rs} {cs} r c is accept rest = record { place = 0; is-put = is; accepted = accept; last = later }
+      where
+        later : (j : ℕ) → 0 < j → refusal-at (r ∷ rs) j ≡ 0 → overrides (call-at (c ∷ cs) j .op) k ≡ false
+        later zero h q = absurd (omega arith)
+        later (suc j) h q = rest j q
+
+    later-put : {rs : List ℕ} {cs : List (Call ℕ)} (r : ℕ) (c : Call ℕ) → LastPut rs cs k a t → LastPut (r ∷ rs) (c ∷ cs) k a t
+    later-put {rs} {cs} r c p = record { place = suc (p .place); is-put = p .is-put; accepted = p .accepted; last = later }
+      where
+        later : (j : ℕ) → suc (p .place) < j → refusal-at (r ∷ rs) j ≡ 0 → overrides (call-at (c ∷ cs) j .op) k ≡ false
+        later zero h q = absurd (omega arith)
+        later (suc j) h q = p .last j (omega arith) q
+
+    -- What the map has after the list was put in the list, or was there before and is spared.
+    came : (m : PlainMap ℕ) (cs : List (Call ℕ)) → get (map-run n m cs .rows) k ≡ found a t
+        → LastPut (map-refusals n m cs) cs k a t ⊎ (Spared (map-refusals n m cs) cs × (get (m .rows) k ≡ found a t))
+    unfolding map-run map-refusals
+    came m [] h = inr ((λ j q. absurd (omega arith)), h)
+    came m (c ∷ cs) h = go (came (map-step n m c) cs h)
+      where
+        r : ℕ
+        r = map-refusal n m c
+
+        rs : List ℕ
+        rs = map-refusals n (map-step n m c) cs
+
+        go : LastPut rs cs k a t ⊎ (Spared rs cs × (get (map-step n m c .rows) k ≡ found a t))
+            → LastPut (r ∷ rs) (c ∷ cs) k a t ⊎ (Spared (r ∷ rs) (c ∷ cs) × (get (m .rows) k ≡ found a t))
+        go (inl p) = inl (later-put r c p)
+        go (inr p) =
+            let spares : (r ≡ 0 → overrides (c .op) k ≡ false) → LastPut (r ∷ rs) (c ∷ cs) k a t ⊎ (Spared (r ∷ rs) (c ∷ cs) × (get (m .rows) k ≡ found a t)) =
+            λ first. inr (spared-more rs cs r c first (p .0), sym (step-spared m c first) ∙ p .1) in
+            by-cases (overrides (c .op) k)
+            (λ o. by-cases (eqb r 0)
+            (λ e. let q = eqb-true r 0 e in inl (first-put r c (set-by (c .clock) (c .op) (get (m .rows)) k a t o (sym (step-accepted n m c k q) ∙ p .1)) q (p .0)))
+            (λ e. spares (λ q. absurd (eqb-false r 0 e q))))
+            (λ o. spares (λ q. o))
+
+    stays : (m : PlainMap ℕ) (cs : List (Call ℕ)) → LastPut (map-refusals n m cs) cs k a t → get (map-run n m cs .rows) k ≡ found a t
+    unfolding map-run map-refusals
+    stays m [] p = absurd (omega arith)
+    stays m (c ∷ cs) p = go (stays (map-step n m c) cs) (p .place) (p .is-put) (p .accepted) (p .last)
+      where
+        rs : List ℕ
+        rs = map-refusals n m (c ∷ cs)
+
+        go : (LastPut (map-refusals n (map-step n m c) cs) cs k a t → get (map-run n (map-step n m c) cs .rows) k ≡ found a t)
+            → (i : ℕ) → call-at (c ∷ cs) i ≡ record { clock = t; op = written (put k a) } → refusal-at rs i ≡ 0
+            → ((j : ℕ) → i < j → refusal-at rs j ≡ 0 → overrides (call-at (c ∷ cs) j .op) k ≡ false) → get (map-run n m (c ∷ cs) .rows) k ≡ found a t
+        go others zero is accept last =
+            run-spared (map-step n m c) cs (λ j. last (suc j) (omega arith)) ∙ step-accepted n m c k accept
+            ∙ ap (λ (x : Call ℕ). after-op (x .clock) (x .op) (get (m .rows)) k) is ∙ rw (eq-eqb k k refl)
+        go others (suc i) is accept last = others (record { place = i; is-put = is; accepted = accept; last = λ j h. last (suc j) (omega arith) })
+
+    -- What the map has for a docket after a list from no rows.
+    pub map-has : (cs : List (Call ℕ)) → (get (map-run n no-rows cs .rows) k ≡ found a t) ↔ LastPut (map-refusals n no-rows cs) cs k a t
+    unfolding get
+    map-has cs = (λ h. go (came no-rows cs h), λ p. stays no-rows cs p)
+      where
+        go : LastPut (map-refusals n no-rows cs) cs k a t ⊎ (Spared (map-refusals n no-rows cs) cs × (absent ≡ found a t)) → LastPut (map-refusals n no-rows cs) cs k a t
+        go (inl p) = p
+        go (inr p) = let no : _≡_ {A = ℕ} 0 1 = cc (p .1) in absurd (omega arith)
+
+-- An accepted call has dockets to 65,535.
+accepted-docket : (n : ℕ) (m : PlainMap ℕ) (cs : List (Call ℕ)) (i : ℕ) → refusal-at (map-refusals n m cs) i ≡ 0 → bad-docket (call-at cs i .op) ≡ false
+unfolding map-refusals map-refusal
+accepted-docket n m [] i q = absurd (omega arith)
+accepted-docket n m (c ∷ cs) zero q = by-cases (bad-docket (c .op)) (λ b. let four : _≡_ {A = ℕ} 4 0 = rw b at q in absurd (omega arith)) (λ b. b)
+accepted-docket n m (c ∷ cs) (suc i) q = accepted-docket n (map-step n m c) cs i q
+
+answered-found : (f : Found ℕ) (a t : ℕ) → answered f ≡ answer.Found a t → f ≡ found a t
+answered-found absent a t q = cc
+answered-found (found b u) a t q = cc
+
+-- On the words: a lookup after a list from a fresh store.
+module _ (n : ℕ) (s : Settings) (low : 1 ≤ n) (high : n ≤ 65535) (ok : allowed s ≡ true) (cs : List (Call ℕ)) (k a t : ℕ) where
+  abbrev found-there : Type 0
+  found-there = lookup-tables (tables-after n s cs .entries) (tables-after n s cs .levels) k ≡ answer.Found a t
+
+  -- A docket that is found is not above 65,535.
+  found-docket : found-there → k ≤ 65535
+  found-docket h =
+      allowed-high (tables-after n s cs .entries) (tables-after n s cs .levels) k k
+      (sym (refused-exactly (tables-after n s cs .entries) (tables-after n s cs .levels) k) ∙ ap (λ x. numbers x .refusal) h)
+
+  put-docket : LastPut (map-refusals n no-rows cs) cs k a t → k ≤ 65535
+  put-docket p =
+      let fits : ltb 65535 k ≡ false =
+      sym (ap (λ (c : Call ℕ). bad-docket (c .op)) (p .is-put)) ∙ accepted-docket n no-rows cs (p .place) (p .accepted) in
+      omega (arith, ltb-false 65535 k fits)
+
+  pub found-exactly : found-there ↔ LastPut (map (λ (r : Answer). r .refusal) (answers-tables (made-tables n s) cs)) cs k a t
+  found-exactly = (
+    λ h. rw (refusals-as-map n s low high ok cs)
+        (map-has n k a t cs .0 (answered-found (get (map-run n no-rows cs .rows) k) a t (sym (lookups-as-map n s low high ok cs k (found-docket h)) ∙ h))),
+    λ q.
+        let p : LastPut (map-refusals n no-rows cs) cs k a t = rw (refusals-as-map n s low high ok cs) at q in
+        lookups-as-map n s low high ok cs k (put-docket p) ∙ ap answered (map-has n k a t cs .1 p),
+  )
