@@ -4,7 +4,7 @@ use mathlib.Core.Logic.{_↔_, _≢_}
 use mathlib.Core.Bool.{true, false}
 use mathlib.Core.List.{List, map}
 use Prim.Native.Nat.{ℕ, _<_, _≤_}
-use lib.ListN.{length}
+use lib.ListN.{length, getD, take}
 use Rattle.settings.specs.declared.Settings.{Settings}
 use Rattle.settings.specs.Limits.{allowed}
 use Rattle.model.specs.Records.{slotless}
@@ -25,15 +25,17 @@ use Rattle.scan.specs.declared.Row.{Row}
 use Rattle.check_refusal.specs.Dockets.{docket-refusal}
 use Rattle.scan.specs.Scan.{unfilled, filled, scan-tables}
 use Rattle.scan.proofs.Words as scans
-use Rattle.call_tables.specs.Calls.{Tables, call-tables, tables-after, answers-tables, made-tables, refusal-number, merged-tables}
+use Rattle.call_tables.specs.Calls.{Tables, call-tables, run-tables, tables-after, answers-tables, made-tables, refusal-number, merged-tables}
 use Rattle.demands.specs.Full.{SlotsLive}
 use Rattle.demands.specs.LastPut.{LastPut}
+use Rattle.demands.specs.Events.{Event, Reply, reply, run-events, replies, calls-of, answers-of}
 use Rattle.call_tables.proofs.Runs as runs
 use Rattle.call_tables.proofs.Refusals as refusals
 use Rattle.demands.proofs.Full as full
 use Rattle.demands.proofs.Merged as merged
 use Rattle.demands.proofs.Made as made
 use Rattle.demands.proofs.LastPuts as puts
+use Rattle.demands.proofs.Events as events
 
 -- DEMAND 1, for tables of any content. Each timed call is refused in exactly the listed cases, and a refusal "gives its number and zeros".
 module _ (w : Tables) (c : Call ℕ) where
@@ -103,6 +105,18 @@ module _ (e l : List ℕ) (lo hi : ℕ) (rows : List Row) where
 
   pub scan-refused-leaves : docket-refusal e l lo hi ≢ 0 → scan-tables e l lo hi rows ≡ unfilled (docket-refusal e l lo hi) rows
   scan-refused-leaves = scans.refused-leaves e l lo hi rows
+
+-- Lookups and scans "may stand anywhere between": on tables of any content, words and answers of the timed calls are those of the list without them.
+module _ (w : Tables) (es : List Event) where
+  pub events-tables : run-events w es ≡ run-tables w (calls-of es)
+  events-tables = events.tables-without w es
+
+  pub events-answers : answers-of (replies w es) ≡ answers-tables w (calls-of es)
+  events-answers = events.answers-without w es
+
+  -- Each answers what it answers on the tables after the timed calls before it.
+  pub events-reply : (i : ℕ) (e : Event) (r : Reply) → i < length es → getD (replies w es) i r ≡ reply (run-tables w (calls-of (take i es))) (getD es i e)
+  events-reply = events.reply-there w es
 
 -- From what an accepted making left, after every list of timed calls.
 module _ (n : ℕ) (s : Settings) (low : 1 ≤ n) (high : n ≤ 65535) (ok : allowed s ≡ true) where

@@ -3,4 +3,5 @@ pub mod Full
 pub mod Merged
 pub mod Made
 pub mod LastPuts
+pub mod Events
 pub mod Demands

@@ -1,3 +1,4 @@
--- What the demands say of lookups.
+-- What the demands say of lookups, and lists in which lookups and scans stand among the timed calls.
 pub mod Full
 pub mod LastPut
+pub mod Events
