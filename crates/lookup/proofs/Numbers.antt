@@ -1,5 +1,5 @@
 -- What a lookup answers by document 01's numbers: on tables of any content, exactly when it is refused and what that gives.
-use mathlib.Core.Path.{_≡_, refl}
+use mathlib.Core.Path.{_≡_, refl, ap, _∙_}
 use mathlib.Core.Logic.{_≢_}
 use mathlib.Core.Bool.{Bool, true, false, cond}
 use mathlib.Core.List.{List}
@@ -9,6 +9,7 @@ use lib.Dec.{eqb}
 use Rattle.model.specs.Lookup as model
 use Rattle.tables.specs.Placed.{read-state}
 use Rattle.check_refusal.specs.Dockets.{docket-refusal}
+use Rattle.lookup.specs.declared.Answer.{Answer}
 use Rattle.lookup.specs.declared.Answer.the-variants.{Refused}
 use Rattle.lookup.specs.Lookup.{answered, lookup-tables, numbers}
 
@@ -33,3 +34,7 @@ module _ (e l : List ℕ) (k : ℕ) where
       → numbers (lookup-tables e l k) ≡ record { refusal = docket-refusal e l k k; found = 0; tally = 0; stamp = 0 }
   unfolding lookup-tables
   refused-zeros some = rw (ne-eqb (docket-refusal e l k k) 0 some)
+
+  -- What a lookup promises of its answer.
+  pub promised : {r : Answer} → r ≡ lookup-tables e l k → (r ≡ lookup-tables e l k) × (numbers r .refusal ≡ docket-refusal e l k k)
+  promised is = (is, ap (λ a. numbers a .refusal) is ∙ refused-exactly)

@@ -9,10 +9,11 @@ ghost use Prim.Native.Nat.{_≤_};
 ghost use Rattle.model.specs.Lookup.{lookup};
 ghost use Rattle.tables.specs.Rows.{settings-of};
 ghost use Rattle.tables.specs.Placed.{read-level, read-state};
+ghost use Rattle.check_refusal.specs.Dockets.{docket-refusal};
 ghost use Rattle.lookup_level.specs.Answers.{level-decides};
 ghost use Rattle.lookup.specs.Found.{found-of};
 ghost use Rattle.lookup_level.specs.Readable.{Readable};
-ghost use Rattle.lookup.specs.Lookup.{lookup-tables};
+ghost use Rattle.lookup.specs.Lookup.{lookup-tables, numbers};
 
 // What a lookup answers: the number of its refusal, or else nothing, or the tally and the stamp.
 pub enum Answer {
@@ -30,6 +31,7 @@ enum Found {
 // Looks one docket up; refused where the tables are not sound, or no docket has the number.
 pub fn lookup(entries: &[u32], levels: &[u32], docket: u32) -> Answer
     ensures { λ r. ⌜ r ≡ lookup-tables (now (entries .entry)) (now (levels .entry)) docket ⌝ }
+    ensures { λ r. ⌜ numbers r .refusal ≡ docket-refusal (now (entries .entry)) (now (levels .entry)) docket docket ⌝ }
 {
     let refusal = docket_refusal(entries, levels, docket, docket);
     if refusal != 0 {

@@ -12,7 +12,7 @@ pack-lookup-requires : tie.Need-pack-lookup-requires
 pack-lookup-requires c κs = search needs
 
 returns : tie.Need-returns
-returns c = c .pack-lookup .ensures ∙ ap packed (c .before .lookup .ensures)
+returns c = c .pack-lookup .ensures ∙ ap packed (c .before .lookup .ensures .0)
 
 pub guontrem-lookup-spec : {M : Type 1} → statement M
 guontrem-lookup-spec = tie.close (tie.spec lookup-requires pack-lookup-requires returns)

@@ -7,6 +7,7 @@ use Rattle.lookup.specs.Lookup.{answered, lookup-tables}
 use Rattle.check_refusal.proofs.Refusals.{allowed-sound}
 use Rattle.lookup_level.proofs.Sound.{readable}
 use Rattle.lookup.proofs.Refused.{refused, looked-up}
+use Rattle.lookup.proofs.Numbers.{promised}
 use Rattle.lookup.proofs.lookup.Statement.{statement}
 use Rattle.lookup.proofs.lookup.Tie as tie
 
@@ -25,7 +26,7 @@ docket-refusal-requires : tie.Need-docket-refusal-requires
 docket-refusal-requires c κs = search needs
 
 returns : tie.Need-returns
-returns c = refused _ _ _ _ (c .before .docket-refusal .ensures) (c .if1 .taken)
+returns c = promised _ _ _ (refused _ _ _ _ (c .before .docket-refusal .ensures) (c .if1 .taken))
 
 look-up-requires : tie.Need-look-up-requires
 look-up-requires c κs =
@@ -40,10 +41,10 @@ enum-known-tally : tie.Need-enum-known-tally
 enum-known-tally c = search needs
 
 returns-2 : tie.Need-returns-2
-returns-2 c = found (c .before .before) _ (ap (λ f. answered (found-of f)) (c .enum-told .given .1))
+returns-2 c = promised _ _ _ (found (c .before .before) _ (ap (λ f. answered (found-of f)) (c .enum-told .given .1)))
 
 returns-3 : tie.Need-returns-3
-returns-3 c = found (c .before .before .before) _ (ap (λ f. answered (found-of f)) (c .before .tally .given .1))
+returns-3 c = promised _ _ _ (found (c .before .before .before) _ (ap (λ f. answered (found-of f)) (c .before .tally .given .1)))
 
 pub lookup-spec : {M : Type 1} → statement M
 lookup-spec = tie.close (tie.spec docket-refusal-requires returns look-up-requires enum-told enum-known-tally returns-2 returns-3)

@@ -25,7 +25,7 @@ prints : (c : tie.After-lookup) (a : Answer) {r : Turn} → c .lookup .result �
     → stepped (s .entries .now) (s .levels .now) r ≡ finds (s .key) (memory (s .entries .now) (s .levels .now) (s .size))
 prints c a is =
     let at = lent c in
-    found (entry at .pre) (at .before .entry-length .ensures) (at .level-length .ensures) (entry at .args .key) a (sym is ∙ c .lookup .ensures)
+    found (entry at .pre) (at .before .entry-length .ensures) (at .level-length .ensures) (entry at .args .key) a (sym is ∙ c .lookup .ensures .0)
 
 entry-length-requires : tie.Need-entry-length-requires
 entry-length-requires c κs = search needs
