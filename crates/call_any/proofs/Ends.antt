@@ -21,7 +21,7 @@ use Rattle.call_refusal.proofs.Begun.{Asked, begun-formed, begun-time, turned-a
 use Rattle.call_end.specs.declared.Answer.{Answer}
 use Rattle.call_end.specs.Coded.{answer-of, called}
 use Rattle.call_end.specs.Ending.{Ending, Ended}
-use Rattle.merge_levels.proofs.Whole.{formed-whole}
+use Rattle.tables.proofs.Whole.{whole}
 use Rattle.call_prepare.specs.declared.Prepared.{Prepared}
 use Rattle.call_prepare.specs.Writing.{Prepares}
 
@@ -60,7 +60,7 @@ module _ {e l : List ℕ} {t : ℕ} {op : Op ℕ} (b : Began e l t op) where
   worked-is = pass-after t work
 
   enough : held-all (after .state .levels) ≤ held-all (p .levels) + count-written op
-  enough = rw worked-is at (held-most (slots-of e) p c (formed-whole (slots-of e) p (begun-formed b)))
+  enough = rw worked-is at (held-most (slots-of e) p c (whole (slots-of e) p (begun-formed b)))
 
   -- What the step of an accepted call comes to.
   accepted-is : accepted-outcome p c ≡ record {

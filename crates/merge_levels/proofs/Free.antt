@@ -12,7 +12,7 @@ use Rattle.tables.specs.Placed.{free-cell, head}
 use Rattle.tables.proofs.Cells.{Chained}
 use Rattle.table_levels.specs.Levels.{RowsAre}
 use Rattle.merge_levels.specs.Laid.{Store, Laid}
-use Rattle.merge_levels.proofs.Whole.{formed-whole}
+use Rattle.tables.proofs.Whole.{whole}
 
 module _ (g : Store) (e l : List ℕ) (w : Laid g e l) where
   -- The first free slot is 0 exactly where none is free.
@@ -37,7 +37,7 @@ module _ (g : Store) (e l : List ℕ) (w : Laid g e l) where
   laid-rows = record {
     levels = w .levels;
     size = w .formed .size;
-    few = omega (arith, formed-whole (g .slots) (timed (g .time) (g .state)) (w .formed) .all, w .formed .many);
+    few = omega (arith, whole (g .slots) (timed (g .time) (g .state)) (w .formed) .all, w .formed .many);
   }
 
   pub slot-zero : InTable e 0

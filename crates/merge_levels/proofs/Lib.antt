@@ -4,5 +4,4 @@ pub mod LevelTable
 pub mod Store
 pub mod Pair
 pub mod Turns
-pub mod Whole
 pub mod Free
