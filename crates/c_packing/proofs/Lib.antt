@@ -1,2 +1,3 @@
 -- Laws of answers as numbers.
 pub mod Packing
+pub mod Readers

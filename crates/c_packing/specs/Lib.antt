@@ -1,2 +1,3 @@
 -- How answers go out to C.
 pub mod Packed
+pub mod Readers
