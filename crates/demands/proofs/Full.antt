@@ -100,7 +100,7 @@ module _ (w : Tables) (sound : table-refusal (w .entries) (w .levels) ≡ 0) (fo
         (once-facts n (p .free ++ levels-slots (p .levels)) (formed .slots-once))
 
     stands : (i : ℕ) → IsSlot w i → 1 ≤ times i ss
-    stands i h = omega (arith, once .each i (h .0) (h .1))
+    stands i h = omega (arith, once .each i (omega (arith, h .0)) (h .1))
 
     slots-inside : All (Inside n) ss
     slots-inside = once-inside n ss once
