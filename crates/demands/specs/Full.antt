@@ -7,7 +7,7 @@ use Rattle.lookup.specs.Lookup.{lookup-tables}
 use Rattle.lookup.specs.declared.Answer.the-variants.{Found}
 use Rattle.call_tables.specs.Calls.{Tables}
 
--- "Slots are 1 to N."
+-- "every slot from 1 to N"
 abbrev pub IsSlot : Tables → ℕ → Type 0
 IsSlot w i = (1 ≤ i) × (i ≤ slots-of (w .entries))
 
