@@ -1,6 +1,7 @@
 -- The claims of document 01, and the laws that they stand on.
 pub mod Coverage
 pub mod Cases
+pub mod Ways
 pub mod NaturalMerge
 pub mod NaturalSteps
 pub mod NaturalCalls
@@ -26,5 +27,4 @@ pub mod Erasing
 pub mod Deletion
 pub mod Erasure
 pub mod Scans
-pub mod Sample
 pub mod Demands

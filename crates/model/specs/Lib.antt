@@ -10,3 +10,4 @@ pub mod PlainMap
 pub mod Erasure
 pub mod Renaming
 pub mod Cases
+pub mod Ways

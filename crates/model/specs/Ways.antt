@@ -1,0 +1,48 @@
+-- Demand 3's premises, worked: a list for each way in which they are met, and beside it lists that lack one of them, where the erased tally still stands.
+use mathlib.Core.Logic.{_≢_}
+use mathlib.Core.List.{List, [], _∷_}
+use Prim.Native.Nat.{ℕ}
+use Rattle.model.specs.Records.{State}
+use Rattle.model.specs.Calls.{Call, run}
+use Rattle.model.specs.Erasure.{Erased}
+use Rattle.model.specs.Cases.{settings, store, P, D, R, F, T}
+
+-- Lists that differ in one tally, v.
+abbrev pub Twins : Type 0
+Twins = ℕ → List (Call ℕ)
+
+-- The put of docket 5 at place i is covered by the delete at place j, and every premise holds, whatever its tally.
+abbrev pub Meets : State (Unit {0}) ℕ → Twins → ℕ → ℕ → Type 0
+Meets s twins i j = (v : ℕ) → Erased s (twins v) i j 5 v
+
+abbrev pub Differ : State (Unit {0}) ℕ → Twins → Type 0
+Differ s twins = run s (twins 50) ≢ run s (twins 51)
+
+-- L = 2, T = 2 and D = 4: n slots, and a buffer that is merged at b records.
+abbrev pub small : ℕ → ℕ → State (Unit {0}) ℕ
+small n b = store n (settings 2 2 b 4)
+
+pub record WayTable : Type 0 where
+  -- "in the pass of the delete's own call"
+  pub own-pass : Meets (small 6 1) (λ v. P 1 5 v ∷ D 2 5 ∷ T 6 ∷ []) 0 1
+  -- "or in any later call of the list": its pass, a flush, a write that has to make room, "a put refused 7 included"
+  pub later-pass : Meets (small 6 2) (λ v. P 1 5 v ∷ F 1 ∷ D 2 5 ∷ P 3 6 60 ∷ T 6 ∷ []) 0 2
+  pub later-flush : Meets (small 6 3) (λ v. P 1 5 v ∷ F 1 ∷ D 2 5 ∷ F 3 ∷ T 6 ∷ []) 0 2
+  pub later-room : Meets (small 2 3) (λ v. P 1 5 v ∷ F 1 ∷ D 2 5 ∷ P 3 6 60 ∷ T 6 ∷ []) 0 2
+  pub later-full : Meets (small 2 3) (λ v. P 1 5 v ∷ D 2 5 ∷ P 3 5 50 ∷ P 3 6 60 ∷ P 4 7 70 ∷ T 6 ∷ []) 0 1
+  -- "it acted on level L directly"
+  pub acted : Meets (small 1 3) (λ v. P 1 5 v ∷ F 1 ∷ D 2 5 ∷ T 6 ∷ []) 0 2
+  pub range : Meets (small 6 1) (λ v. P 1 5 v ∷ R 2 4 6 ∷ T 6 ∷ []) 0 1
+  -- The put itself is refused, for its clock or for lack of a slot.
+  pub refused-put : Meets (small 6 1) (λ v. P 0 5 v ∷ D 2 5 ∷ T 6 ∷ []) 0 1
+  pub full-put : Meets (small 1 1) (λ v. P 1 6 60 ∷ P 1 5 v ∷ D 2 5 ∷ T 6 ∷ []) 1 2
+  -- Level 0 is merged in the delete's own call, but only to make room, before the delete's entry.
+  pub before-entry : Differ (small 3 4) (λ v. P 1 5 v ∷ F 1 ∷ P 1 6 60 ∷ D 1 6 ∷ P 1 7 70 ∷ D 2 5 ∷ T 6 ∷ [])
+  -- The delete waits in the buffer.
+  pub unmerged : Differ (small 6 3) (λ v. P 1 5 v ∷ F 1 ∷ D 2 5 ∷ T 6 ∷ [])
+  -- One tick short of the term.
+  pub too-early : Differ (small 6 1) (λ v. P 1 5 v ∷ P 1 6 60 ∷ P 1 7 70 ∷ D 2 5 ∷ T 5 ∷ [])
+  -- The delete is refused, covers another docket, or came before the put.
+  pub refused-delete : Differ (small 6 1) (λ v. P 1 5 v ∷ D 0 5 ∷ T 6 ∷ [])
+  pub other-docket : Differ (small 6 1) (λ v. P 1 5 v ∷ D 2 6 ∷ T 6 ∷ [])
+  pub delete-first : Differ (small 6 1) (λ v. D 1 5 ∷ P 2 5 v ∷ T 6 ∷ [])
