@@ -75,7 +75,11 @@ module _ (w : Tables) (c : Call ℕ) where
       go true h = ap (words (slots-of (w .entries))) (step-full h)
       go false h = absurd (omega (arith, tables-refuse-low (w .entries) (w .levels)))
 
-  -- A call is refused 7 on sound tables only.
+  -- A call is accepted on sound tables only.
+  pub accepted-sound : call-tables w c .answer .refusal ≡ 0 → t ≡ 0
+  accepted-sound h = by-cases (eqb t 0) (λ yes. eqb-true t 0 yes) (λ no. rw no at (sym refused-exactly ∙ h))
+
+  -- And it is refused 7 on sound tables only.
   pub refused-7-sound : call-tables w c .answer .refusal ≡ 7 → t ≡ 0
   refused-7-sound h =
       by-cases (eqb t 0) (λ yes. eqb-true t 0 yes)

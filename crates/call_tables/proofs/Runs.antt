@@ -2,7 +2,7 @@
 use mathlib.Core.Path.{_≡_, refl, sym, ap, _∙_}
 use mathlib.Core.Bool.{Bool, true, false, cond}
 use mathlib.Core.Logic.{_≢_}
-use mathlib.Core.List.{List, [], _∷_}
+use mathlib.Core.List.{List, [], _∷_, map}
 use Prim.Native.Nat.{ℕ}
 use native.Mathlib.Omega.{arith}
 use lib.Dec.{eqb}
@@ -47,6 +47,41 @@ rewritten w fits h =
     let p : State ℕ ℕ = read-state (w .entries) (w .levels) in
     let f = sound-words (w .entries) (w .levels) fits h in
     ap (λ (e : List ℕ). lent e (level-words p)) (sym (f .entries)) ∙ ap (lent (w .entries)) (sym (f .levels))
+
+-- Calls on sound tables are the steps of what they read as.
+module _ (w : Tables) (sound : table-refusal (w .entries) (w .levels) ≡ 0) where
+  pub called-sound : (c : Call ℕ) → call-tables w c ≡ wrote (slots-of (w .entries)) (step (read-state (w .entries) (w .levels)) c)
+  unfolding call-tables
+  called-sound c = rw sound
+
+  module _ (fits : Fits32 (w .entries)) (cs : List (Call ℕ)) where
+    pub run-sound : run-tables w cs ≡ words (slots-of (w .entries)) (run (read-state (w .entries) (w .levels)) cs)
+    run-sound =
+        ap (λ (x : Tables). run-tables x cs) (sym (rewritten w fits sound))
+        ∙ run-words (slots-of (w .entries)) (read-state (w .entries) (w .levels)) cs (sound-words (w .entries) (w .levels) fits sound .formed)
+
+    pub answers-sound : answers-tables w cs ≡ answers (read-state (w .entries) (w .levels)) cs
+    answers-sound =
+        ap (λ (x : Tables). answers-tables x cs) (sym (rewritten w fits sound))
+        ∙ answers-words (slots-of (w .entries)) (read-state (w .entries) (w .levels)) cs (sound-words (w .entries) (w .levels) fits sound .formed)
+
+-- Tables that are not sound stay as they are, and every call on them meets the same refusal.
+module _ (w : Tables) (unsound : eqb (table-refusal (w .entries) (w .levels)) 0 ≡ false) where
+  called-unsound : (c : Call ℕ) → call-tables w c ≡ record { tables = w; answer = refusing (table-refusal (w .entries) (w .levels)) }
+  unfolding call-tables
+  called-unsound c = rw unsound
+
+  pub run-unsound : (cs : List (Call ℕ)) → run-tables w cs ≡ w
+  unfolding run-tables
+  run-unsound [] = refl
+  run-unsound (c ∷ cs) = ap (λ (r : Called). run-tables (r .tables) cs) (called-unsound c) ∙ run-unsound cs
+
+  pub answers-unsound : (cs : List (Call ℕ)) → answers-tables w cs ≡ map (λ (c : Call ℕ). refusing (table-refusal (w .entries) (w .levels))) cs
+  unfolding answers-tables
+  answers-unsound [] = refl
+  answers-unsound (c ∷ cs) =
+      ap (λ (r : Called). r .answer ∷ answers-tables (r .tables) cs) (called-unsound c)
+      ∙ ap (_∷_ (refusing (table-refusal (w .entries) (w .levels)))) (answers-unsound cs)
 
 -- "Tables … are unchanged, save under 7", for tables of any content.
 module _ (w : Tables) (fits : Fits32 (w .entries)) (c : Call ℕ) where

@@ -3,14 +3,14 @@ use mathlib.Core.Path.{_≡_}
 use mathlib.Core.Logic.{_↔_, _≢_}
 use mathlib.Core.Bool.{true, false}
 use mathlib.Core.List.{List, map}
-use Prim.Native.Nat.{ℕ, _<_, _≤_}
+use Prim.Native.Nat.{ℕ, _+_, _<_, _≤_}
 use lib.ListN.{length, getD, take}
 use Rattle.settings.specs.declared.Settings.{Settings}
 use Rattle.settings.specs.Limits.{allowed}
 use Rattle.model.specs.Records.{slotless}
 use Rattle.model.specs.Steps.{put, delete, delete-range}
 use Rattle.model.specs.Lookup.{scan}
-use Rattle.model.specs.Calls.{Call, Answer, written, refusing, bad-clock, answers}
+use Rattle.model.specs.Calls.{Call, Answer, written, refusing, bad-clock, count-written, answers}
 use Rattle.model.specs.PlainMap.{get, map-run, map-refusals, no-rows}
 use Rattle.model.specs.Erasure.{retally, Erased}
 use Rattle.model_history.specs.History.{came, earliest, history}
@@ -29,6 +29,7 @@ use Rattle.call_tables.specs.Calls.{Tables, call-tables, run-tables, tables-aft
 use Rattle.demands.specs.Full.{SlotsLive}
 use Rattle.demands.specs.LastPut.{LastPut}
 use Rattle.demands.specs.Events.{Event, Reply, reply, run-events, replies, calls-of, answers-of}
+use Rattle.demands.specs.Numbers.{records-of, Settled, untallied, SameButTallies}
 use Rattle.call_tables.proofs.Runs as runs
 use Rattle.call_tables.proofs.Refusals as refusals
 use Rattle.demands.proofs.Full as full
@@ -36,6 +37,8 @@ use Rattle.demands.proofs.Merged as merged
 use Rattle.demands.proofs.Made as made
 use Rattle.demands.proofs.LastPuts as puts
 use Rattle.demands.proofs.Events as events
+use Rattle.demands.proofs.Numbers as accepted
+use Rattle.demands.proofs.Tallies as tallies
 
 -- DEMAND 1, for tables of any content. Each timed call is refused in exactly the listed cases, and a refusal "gives its number and zeros".
 module _ (w : Tables) (c : Call ℕ) where
@@ -117,6 +120,28 @@ module _ (w : Tables) (es : List Event) where
   -- Each answers what it answers on the tables after the timed calls before it.
   pub events-reply : (i : ℕ) (e : Event) (r : Reply) → i < length es → getD (replies w es) i r ≡ reply (run-tables w (calls-of (take i es))) (getD es i e)
   events-reply = events.reply-there w es
+
+-- DEMAND 2, where a call is accepted, on any tables: "purged = held before + written − held after", by the numbers of records in the level rows.
+module _ (w : Tables) (c : Call ℕ) where
+  pub purged-adds-up : Fits32 (w .entries) → call-tables w c .answer .refusal ≡ 0
+      → call-tables w c .answer .purged + records-of (call-tables w c .tables .levels) ≡ records-of (w .levels) + count-written (c .op)
+  purged-adds-up = accepted.purged-adds-up w c
+
+  -- And by its row no level from 1 to L−1 is "still over capacity or limit".
+  pub accepted-settles : Fits32 (w .entries) → call-tables w c .answer .refusal ≡ 0 → (i : ℕ) → 1 ≤ i → i < settings-of (w .levels) .deepest
+      → Settled (settings-of (w .levels)) (c .clock) i (level-row (call-tables w c .tables .levels) i)
+  accepted-settles = accepted.accepted-settles w c
+
+-- "which slot a record occupies, and with it the order of the free chain; neither may hang on a tally", and no other word or answer does: from tables of any
+-- content that differ in tallies alone and meet the same of refusals 1 to 3, or none, lists that differ in tallies alone leave tables that do.
+module _ (w v : Tables) (fits : Fits32 (w .entries)) (fits′ : Fits32 (v .entries)) (same : SameButTallies w v)
+    (check : table-refusal (w .entries) (w .levels) ≡ table-refusal (v .entries) (v .levels))
+    (cs ds : List (Call ℕ)) (alike : map untallied cs ≡ map untallied ds) where
+  pub words-blind : SameButTallies (run-tables w cs) (run-tables v ds)
+  words-blind = tallies.words-blind w v fits fits′ same check cs ds alike
+
+  pub answers-blind : answers-tables w cs ≡ answers-tables v ds
+  answers-blind = tallies.answers-blind w v fits fits′ same check cs ds alike
 
 -- From what an accepted making left, after every list of timed calls.
 module _ (n : ℕ) (s : Settings) (low : 1 ≤ n) (high : n ≤ 65535) (ok : allowed s ≡ true) where

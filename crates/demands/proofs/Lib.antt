@@ -4,4 +4,6 @@ pub mod Merged
 pub mod Made
 pub mod LastPuts
 pub mod Events
+pub mod Numbers
+pub mod Tallies
 pub mod Demands

@@ -21,3 +21,4 @@ pub mod FormedSteps
 pub mod Whole
 pub mod SlotLists
 pub mod ReadPoints
+pub mod Tallies
