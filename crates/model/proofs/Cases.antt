@@ -1,17 +1,22 @@
--- The ● cases of document 01, proved as one table, and the near misses and other edges as a second.
-use mathlib.Core.Path.{refl, ap}
+-- The ● cases of document 01, proved as one table, the near misses and other edges as a second, and the ways of demand 3's premises as a third.
+use mathlib.Core.Path.{_≡_, refl, ap}
 use mathlib.Core.List.{[], _∷_}
-use lib.Dec.{lit≤}
+use Prim.Native.Nat.{ℕ}
+use native.Mathlib.Omega.{arith}
+use lib.Dec.{lit<, lit≤}
 use Rattle.lists.specs.Lists.{any, select, sum, merge, iterate}
 use Rattle.settings.specs.Limits.{power, capacity, limit}
 use Rattle.settings.proofs.Limits.{limit-last}
-use Rattle.model.specs.Records.{fresh}
+use Rattle.model.specs.Records.{Entry, value, tombstone, Point, State, fresh}
 use Rattle.model.specs.Coverage.{covers}
 use Rattle.model.specs.Merge.{later, merged, settled, joined, freed}
-use Rattle.model.specs.Steps.{single, merge-state, merge-level, merge-all, enter-at, enter, set-points, wipe, act-deepest, crowded, make-room, full, write, no-slot, buffer-due, due, pass-buffer, pass-level, pass, still-due}
+use Rattle.model.specs.Steps.{delete, delete-range, single, merge-state, merge-level, merge-all, enter-at, enter, set-points, wipe, act-deepest, crowded, make-room, full, write, no-slot, buffer-due, due, pass-buffer, pass-level, pass, still-due}
 use Rattle.model.specs.Lookup.{live-from, scan, find, lookup}
+use Rattle.model.specs.Live.{all-points}
 use Rattle.model.specs.Calls.{prepared, finish, step, run, answers}
+use Rattle.model.specs.Erasure.{accepted, pass-merges, merges-buffer, merged-in}
 use Rattle.model.specs.Cases.{settings, CaseTable, NearMissTable}
+use Rattle.model.specs.Ways.{WayTable}
 
 pub cases : CaseTable
 unfolding any select covers sum merge iterate power capacity limit fresh later merged settled joined freed single merge-state merge-level merge-all enter-at
@@ -50,4 +55,41 @@ near-misses = record {
   scan-no-rows = refl;
   scan-one-row = refl;
   scan-all = refl;
+}
+
+-- All tallies of a state, added.
+tallies : State (Unit {0}) ℕ → ℕ
+tallies s = sum tally (all-points (s .levels))
+  where
+    tally : Point (Unit {0}) ℕ → ℕ
+    tally p = of (p .entry)
+      where
+        of : Entry ℕ → ℕ
+        of (value v) = v
+        of tombstone = 0
+
+-- States whose tallies add up to numbers that differ are different.
+apart : {s r : State (Unit {0}) ℕ} → ((tallies s ≡ tallies r) → ⊥) → s ≡ r → ⊥
+apart h e = h (ap tallies e)
+
+pub ways : WayTable
+unfolding tallies any select covers sum merge iterate power capacity limit fresh later merged settled joined freed single merge-state merge-level merge-all
+    enter-at enter set-points wipe act-deepest crowded make-room full write no-slot buffer-due due pass-buffer pass-level pass still-due prepared finish step
+    run accepted pass-merges merges-buffer merged-in
+ways = record {
+  own-pass = λ v. record { is-put = refl; after = lit< tt; write = delete 5; is-write = refl; covers = refl; accept = refl; fate = refl; term = lit≤ tt };
+  later-pass = λ v. record { is-put = refl; after = lit< tt; write = delete 5; is-write = refl; covers = refl; accept = refl; fate = refl; term = lit≤ tt };
+  later-flush = λ v. record { is-put = refl; after = lit< tt; write = delete 5; is-write = refl; covers = refl; accept = refl; fate = refl; term = lit≤ tt };
+  later-room = λ v. record { is-put = refl; after = lit< tt; write = delete 5; is-write = refl; covers = refl; accept = refl; fate = refl; term = lit≤ tt };
+  later-full = λ v. record { is-put = refl; after = lit< tt; write = delete 5; is-write = refl; covers = refl; accept = refl; fate = refl; term = lit≤ tt };
+  acted = λ v. record { is-put = refl; after = lit< tt; write = delete 5; is-write = refl; covers = refl; accept = refl; fate = refl; term = lit≤ tt };
+  range = λ v. record { is-put = refl; after = lit< tt; write = delete-range 4 6; is-write = refl; covers = refl; accept = refl; fate = refl; term = lit≤ tt };
+  refused-put = λ v. record { is-put = refl; after = lit< tt; write = delete 5; is-write = refl; covers = refl; accept = refl; fate = refl; term = lit≤ tt };
+  full-put = λ v. record { is-put = refl; after = lit< tt; write = delete 5; is-write = refl; covers = refl; accept = refl; fate = refl; term = lit≤ tt };
+  before-entry = apart (λ (h : 120 ≡ 121). omega arith);
+  unmerged = apart (λ (h : 50 ≡ 51). omega arith);
+  too-early = apart (λ (h : 180 ≡ 181). omega arith);
+  refused-delete = apart (λ (h : 50 ≡ 51). omega arith);
+  other-docket = apart (λ (h : 50 ≡ 51). omega arith);
+  delete-first = apart (λ (h : 50 ≡ 51). omega arith);
 }

@@ -1,7 +1,6 @@
 -- The claims of document 01, and the laws that they stand on.
 pub mod Coverage
 pub mod Cases
-pub mod Ways
 pub mod NaturalMerge
 pub mod NaturalSteps
 pub mod NaturalCalls
