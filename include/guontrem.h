@@ -132,6 +132,9 @@ struct guontrem_row {
 uint64_t guontrem_scan(const uint32_t *entries, size_t entry_words, const uint32_t *levels, size_t level_words,
                        uint32_t lo, uint32_t hi, struct guontrem_row *rows, size_t row_count);
 
+/* The readers of answers: each gives its part of every answer of every call. crates/c_packing/specs/Readers.antt defines what they
+   compute, and crates/c_packing/proofs/ReadBack.antt proves it of that. */
+
 /* A timed call's answer. Refused: merges and purged are 0. */
 static inline uint32_t guontrem_timed_refusal(uint64_t answer) { return (uint32_t)(answer >> 40); }
 
@@ -163,7 +166,7 @@ static inline int guontrem_scan_more(uint64_t answer) { return (int)(answer >> 4
 /* With more, the first live docket that has no row, from which another scan goes on; without, 0. */
 static inline uint32_t guontrem_scan_next(uint64_t answer) { return (uint32_t)(answer >> 32 & 0xffff); }
 
-/* The readers: what the tables say of themselves, without a check. It is true of tables that pass guontrem_check. Of others it is
+/* The readers of tables: what the tables say of themselves, without a check. It is true of tables that pass guontrem_check. Of others it is
    whatever stands in their words, and 0 where a table is too short to have them. */
 
 /* The clock of the last accepted timed call; 0 in a fresh store. */

@@ -24,18 +24,16 @@ module _ (n q m r : ℕ) (is : n ≡ q * m + r) (low : r < m) where
   below = ap (λ x. x % m) is ∙ digits-mod q low
 
 module _ (r : model.Answer) (f : r .refusal < 256) (m : r .merges < 256) (p : r .purged < 4294967296) where
-  purged-is : answer-number r % 4294967296 ≡ r .purged
-  purged-is = below (answer-number r) (r .refusal * 256 + r .merges) 4294967296 (r .purged) (omega arith) p
+  purged-is : read-timed (answer-number r) .purged ≡ r .purged
+  purged-is = below (answer-number r) (r .refusal * 256 + r .merges) _ (r .purged) (omega arith) p
 
-  merges-is : answer-number r / 4294967296 % 256 ≡ r .merges
-  merges-is =
-      below (answer-number r / 4294967296) (r .refusal) 256 (r .merges)
-      (above (answer-number r) (r .refusal * 256 + r .merges) 4294967296 (r .purged) (omega arith) p) m
+  merges-is : read-timed (answer-number r) .merges ≡ r .merges
+  merges-is = below _ (r .refusal) _ (r .merges) (above (answer-number r) (r .refusal * 256 + r .merges) _ (r .purged) (omega arith) p) m
 
-  refusal-is : answer-number r / 1099511627776 % 4294967296 ≡ r .refusal
+  refusal-is : read-timed (answer-number r) .refusal ≡ r .refusal
   refusal-is =
-      rw (above (answer-number r) (r .refusal) 1099511627776 (r .purged + 4294967296 * r .merges) (omega arith) (omega arith))
-      (mod-eq-of-lt (omega arith))
+      ap (λ x. x % 4294967296) (above (answer-number r) (r .refusal) _ (r .purged + 4294967296 * r .merges) (omega arith) (omega arith))
+      ∙ mod-eq-of-lt (omega arith)
 
   pub timed-read : read-timed (answer-number r) ≡ r
   timed-read = rw (refusal-is, merges-is, purged-is)
@@ -75,26 +73,24 @@ module _ (a : Scanned) (c : a .count < 4294967296) (n : a .next < 65536) (r : a 
       go true = omega arith
       go false = omega arith
 
-  count-is : packed-scan a % 4294967296 ≡ a .count
-  count-is = below (packed-scan a) ((a .refusal * 256 + bit (a .more)) * 65536 + a .next) 4294967296 (a .count) sum-is c
+  count-is : read-scan (packed-scan a) .count ≡ a .count
+  count-is = below (packed-scan a) ((a .refusal * 256 + bit (a .more)) * 65536 + a .next) _ (a .count) sum-is c
 
-  next-is : packed-scan a / 4294967296 % 65536 ≡ a .next
+  next-is : read-scan (packed-scan a) .next ≡ a .next
   next-is =
-      below (packed-scan a / 4294967296) (a .refusal * 256 + bit (a .more)) 65536 (a .next)
-      (above (packed-scan a) ((a .refusal * 256 + bit (a .more)) * 65536 + a .next) 4294967296 (a .count) sum-is c) n
+      below _ (a .refusal * 256 + bit (a .more)) _ (a .next)
+      (above (packed-scan a) ((a .refusal * 256 + bit (a .more)) * 65536 + a .next) _ (a .count) sum-is c) n
 
-  from-48 : packed-scan a / 281474976710656 ≡ a .refusal * 256 + bit (a .more)
-  from-48 = above (packed-scan a) (a .refusal * 256 + bit (a .more)) 281474976710656 (a .next * 4294967296 + a .count) (omega (arith, sum-is)) (omega (arith, c, n))
-
-  more-is : eqb (packed-scan a / 281474976710656 % 2) 1 ≡ a .more
+  more-is : read-scan (packed-scan a) .more ≡ a .more
   more-is =
-      rw (below (packed-scan a / 281474976710656) (a .refusal * 128) 2 (bit (a .more)) (omega (arith, from-48)) (bit-low (a .more))) (bit-read (a .more))
+      ap (λ x. eqb (x % 2) 1) (above (packed-scan a) (a .refusal * 256 + bit (a .more)) _ (a .next * 4294967296 + a .count) (omega (arith, sum-is)) (omega arith))
+      ∙ ap (λ x. eqb x 1) (below (a .refusal * 256 + bit (a .more)) (a .refusal * 128) 2 (bit (a .more)) (omega arith) (bit-low (a .more))) ∙ bit-read (a .more)
 
-  refusal-scan : packed-scan a / 72057594037927936 % 4294967296 ≡ a .refusal
+  refusal-scan : read-scan (packed-scan a) .refusal ≡ a .refusal
   refusal-scan =
-      rw (above (packed-scan a) (a .refusal) 72057594037927936 (bit (a .more) * 281474976710656 + a .next * 4294967296 + a .count)
-      (omega (arith, sum-is)) (omega (arith, c, n, bit-low (a .more))))
-      (mod-eq-of-lt (omega arith))
+      ap (λ x. x % 4294967296) (above (packed-scan a) (a .refusal) _ (bit (a .more) * 281474976710656 + a .next * 4294967296 + a .count)
+      (omega (arith, sum-is)) (omega (arith, bit-low (a .more))))
+      ∙ mod-eq-of-lt (omega arith)
 
   pub scan-read : read-scan (packed-scan a) ≡ a
   scan-read = rw (refusal-scan, count-is, more-is, next-is)

@@ -1,4 +1,5 @@
--- What the readers of include/guontrem.h take out of an answer's number: `>>` divides, a cast or a mask takes the remainder.
+-- What the readers of include/guontrem.h take out of an answer's number, operation by operation: `>> n` divides by 2^n, the cast to uint32_t and a mask
+-- are the remainder by 2^32 and by one more than the mask; `>>` binds closer than `&` and `!=`.
 use mathlib.Core.Bool.{cond}
 use Prim.Native.Nat.{ℕ, _/_, _%_}
 use lib.Dec.{eqb}
@@ -6,11 +7,13 @@ use Rattle.model.specs.Calls as model
 use Rattle.lookup.specs.Lookup.{Numbers}
 use Rattle.scan.specs.declared.Scanned.{Scanned}
 
--- `guontrem_timed_refusal`, `_merges`, `_purged`.
+-- `guontrem_timed_refusal` is `(uint32_t)(answer >> 40)`, `_merges` `(uint32_t)(answer >> 32 & 0xff)`, `_purged` `(uint32_t)answer`.
+-- What a mask leaves has room in the cast.
 abbrev pub read-timed : ℕ → model.Answer
 read-timed n = record { refusal = n / 1099511627776 % 4294967296; merges = n / 4294967296 % 256; purged = n % 4294967296 }
 
--- `guontrem_lookup_refusal`, `_found`, `_tally`, `_stamp`.
+-- `guontrem_lookup_found` is `answer >> 32 != 0`. Found: `_tally` is `(uint32_t)answer`, `_refusal` 0; else the other way round.
+-- `_stamp` is `(uint32_t)(answer >> 32)`.
 abbrev pub read-lookup : ℕ → Numbers
 read-lookup n = record {
   refusal = cond (eqb (n / 4294967296) 0) (n % 4294967296) 0;
@@ -19,7 +22,8 @@ read-lookup n = record {
   stamp = n / 4294967296 % 4294967296;
 }
 
--- `guontrem_scan_refusal`, `_count`, `_more`, `_next`.
+-- `guontrem_scan_refusal` is `(uint32_t)(answer >> 56)`, `_count` `(uint32_t)answer`, `_more` `(int)(answer >> 48 & 1)`,
+-- `_next` `(uint32_t)(answer >> 32 & 0xffff)`.
 abbrev pub read-scan : ℕ → Scanned
 read-scan n = record {
   refusal = n / 72057594037927936 % 4294967296;

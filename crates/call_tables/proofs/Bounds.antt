@@ -1,24 +1,27 @@
 -- How large the numbers of an answer are, on tables of any content.
-use mathlib.Core.Path.{_≡_, refl, ap}
+use mathlib.Core.Path.{ap}
 use mathlib.Core.Bool.{Bool, true, false, cond}
 use Prim.Native.Nat.{ℕ, _+_, _<_, _≤_}
 use native.Mathlib.Omega.{arith}
 use lib.Dec.{eqb}
 use borrow.Author.Tests.{eqb-true}
-use Rattle.lists.proofs.Bools.{by-cases}
+use Rattle.lists.proofs.Bools.{cond-elim, by-cases}
 use Rattle.settings.proofs.Allowed.{allowed-bounds}
 use Rattle.model.specs.Records.{State}
 use Rattle.model.specs.Steps.{crowded}
-use Rattle.model.specs.Calls.{Op, written, flush, tick, Call, bad-docket, bad-clock, out-of-slots, refusing, step}
+use Rattle.model.specs.Calls.{Op, written, flush, tick, Call, Answer, bad-docket, count-written, bad-clock, out-of-slots, refusing, step}
 use Rattle.model.specs.Erasure.{accepted}
-use Rattle.model.proofs.Numbers.{most-merges, merges-most}
+use Rattle.model.proofs.Slots.{Whole}
+use Rattle.model.proofs.Numbers.{purged-sum, most-merges, merges-most}
 use Rattle.model.proofs.Demands as model
 use Rattle.tables.specs.Words.{Fits32}
 use Rattle.tables.specs.Slots.{slots-of}
 use Rattle.tables.specs.Sound.{table-refusal}
 use Rattle.tables.specs.Placed.{read-state}
+use Rattle.tables.specs.Formed.{Formed}
 use Rattle.tables.proofs.FormedSound.{sound-words}
-use Rattle.call_tables.specs.Calls.{Tables, wrote, call-tables}
+use Rattle.tables.proofs.Whole.{whole}
+use Rattle.call_tables.specs.Calls.{Tables, Called, wrote, call-tables}
 use Rattle.tables.proofs.Numbers.{tables-refuse-low}
 use Rattle.call_tables.proofs.Refusals.{refused-exactly}
 
@@ -54,16 +57,34 @@ module _ (w : Tables) (c : Call ℕ) where
       by-cases (accepted p c) (λ a. omega (arith, merges-most p c low a, most (c .op) high))
       (λ a. omega (arith, ap (λ r. r .merges) (model.refused-answer p c a)))
 
-  -- A call counts at most L merges for room and L in its pass.
-  pub merges-most-12 : Fits32 (w .entries) → call-tables w c .answer .merges ≤ 12
-  unfolding call-tables
-  merges-most-12 fits = go (eqb t 0) refl
-    where
-      t : ℕ
-      t = table-refusal (w .entries) (w .levels)
+  written-most : (op : Op ℕ) → count-written op ≤ 1
+  written-most (written v) = omega arith
+  written-most flush = omega arith
+  written-most tick = omega arith
 
-      go : (b : Bool) → eqb t 0 ≡ b → cond b (wrote (slots-of (w .entries)) (step p c)) (record { tables = w; answer = refusing t }) .answer .merges ≤ 12
-      go true q =
-          let b = allowed-bounds (p .settings) (sound-words (w .entries) (w .levels) fits (eqb-true t 0 q) .formed .settings-ok) in
-          step-most (omega (arith, b .deepest-low)) (b .deepest-high)
-      go false q = omega arith
+  -- No more can be purged than n slots held and one written.
+  step-purged : (n : ℕ) → Whole n p → step p c .answer .purged ≤ n + 1
+  step-purged n f =
+      by-cases (accepted p c) (λ a. omega (arith, purged-sum n p c f a, f .all, written-most (c .op)))
+      (λ a. omega (arith, ap (λ r. r .purged) (model.refused-answer p c a)))
+
+  module _ (fits : Fits32 (w .entries)) where
+    -- What holds of the step's answer in a formed state, and of every refusal, holds of the call's.
+    answer-holds : (P : Answer → Type 0) → (Formed (slots-of (w .entries)) p → P (step p c .answer)) → ((n : ℕ) → P (refusing n))
+        → P (call-tables w c .answer)
+    unfolding call-tables
+    answer-holds P stepped refused =
+        let t : ℕ = table-refusal (w .entries) (w .levels) in
+        cond-elim (λ (r : Called). P (r .answer)) (eqb t 0) (wrote (slots-of (w .entries)) (step p c)) (record { tables = w; answer = refusing t })
+        (λ q. stepped (sound-words (w .entries) (w .levels) fits (eqb-true t 0 q) .formed)) (λ q. refused t)
+
+    -- A call counts at most L merges for room and L in its pass.
+    pub merges-most-12 : call-tables w c .answer .merges ≤ 12
+    merges-most-12 =
+        answer-holds (λ r. r .merges ≤ 12)
+        (λ f. let b = allowed-bounds (p .settings) (f .settings-ok) in step-most (omega (arith, b .deepest-low)) (b .deepest-high)) (λ n. omega arith)
+
+    pub purged-most : call-tables w c .answer .purged ≤ 65536
+    purged-most =
+        answer-holds (λ r. r .purged ≤ 65536)
+        (λ f. omega (arith, step-purged (slots-of (w .entries)) (whole (slots-of (w .entries)) p f), f .many)) (λ n. omega arith)

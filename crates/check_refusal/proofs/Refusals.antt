@@ -9,6 +9,7 @@ use lib.Dec.{eqb, ltb}
 use borrow.Author.Tests.{eq-eqb, ne-eqb, lt-ltb, le-ltb, eqb-true, ltb-false}
 use Rattle.lists.proofs.Bools.{or-false-left, or-false-right, or-false}
 use Rattle.tables.specs.Sound.{table-refusal}
+use Rattle.tables.proofs.Numbers.{tables-refuse-low}
 use Rattle.check_refusal.specs.Dockets.{bad-dockets, docket-refusal}
 
 module _ (e l : List ℕ) (lo hi r : ℕ) (checked : r ≡ table-refusal e l) where
@@ -23,6 +24,15 @@ module _ (e l : List ℕ) (lo hi r : ℕ) (checked : r ≡ table-refusal e l) wh
 
   pub allowed : r ≡ 0 → hi ≤ 65535 → lo ≤ hi → 0 ≡ docket-refusal e l lo hi
   allowed z h o = rw (← checked, eq-eqb r 0 z, le-ltb 65535 hi h, le-ltb hi lo o)
+
+-- They are 1 to 4.
+pub dockets-refuse-low : (e l : List ℕ) (lo hi : ℕ) → docket-refusal e l lo hi ≤ 4
+dockets-refuse-low e l lo hi = go (eqb (table-refusal e l) 0) (bad-dockets lo hi) (table-refusal e l) (tables-refuse-low e l)
+  where
+    go : (a b : Bool) (r : ℕ) → r ≤ 3 → cond a (cond b 4 0) r ≤ 4
+    go true true r h = omega arith
+    go true false r h = omega arith
+    go false b r h = omega arith
 
 neither : (b c : Bool) (r : ℕ) → eqb r 0 ≡ b → cond b (cond c 4 0) r ≡ 0 → (r ≡ 0) × (c ≡ false)
 neither true true r p h = absurd (true≢false (sym (eq-eqb 4 0 h)))

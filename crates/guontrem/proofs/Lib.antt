@@ -1,4 +1,3 @@
 -- Laws of what goes out to C.
-pub mod Stamped
 pub mod Numbers
 pub mod Rooms

@@ -2,3 +2,4 @@
 pub mod Levels
 pub mod Refused
 pub mod Numbers
+pub mod Bounds

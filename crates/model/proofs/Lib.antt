@@ -13,6 +13,7 @@ pub mod Slots
 pub mod Numbers
 pub mod Counted
 pub mod Lookups
+pub mod Found
 pub mod Deepest
 pub mod LookupSteps
 pub mod Passing

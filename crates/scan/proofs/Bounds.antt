@@ -1,6 +1,5 @@
 -- How large the numbers of a scan's answer can be: as many rows as there are dockets, a docket, and the last refusal.
 use mathlib.Core.Path.{_≡_}
-use mathlib.Core.Bool.{Bool, true, false, cond}
 use mathlib.Core.List.{List, [], _∷_}
 use Prim.Native.Nat.{ℕ, zero, suc, _-_, _<_, _≤_}
 use native.Mathlib.Omega.{arith}
@@ -13,14 +12,12 @@ use Rattle.lists.proofs.Tests.{all-weaken}
 use Rattle.model.specs.Lookup as model
 use Rattle.model.specs.Lookup.{Found, absent, found, add-row, live-from, live, first-key}
 use Rattle.model.proofs.Scans.{live-listed}
-use Rattle.tables.specs.Sound.{table-refusal}
-use Rattle.tables.proofs.Numbers.{tables-refuse-low}
 use Rattle.tables.specs.Placed.{read-state}
 use Rattle.scan.specs.declared.Row.{Row}
 use Rattle.scan.specs.declared.Scanned.{Scanned}
-use Rattle.check_refusal.specs.Dockets.{bad-dockets, docket-refusal}
+use Rattle.check_refusal.specs.Dockets.{docket-refusal}
 use Rattle.scan.specs.Scan.{scan-tables}
-use Rattle.check_refusal.proofs.Refusals.{allowed-high, allowed-order}
+use Rattle.check_refusal.proofs.Refusals.{dockets-refuse-low, allowed-high, allowed-order}
 
 module _ {A : Type 0} where
   added-length : (k : ℕ) (v : Found A) (rs : List (model.Row A)) → length (add-row k v rs) ≤ suc (length rs)
@@ -50,14 +47,6 @@ module _ {A : Type 0} where
           first-key-low (suc hi) (omega arith) room (live look lo hi)
           (all-weaken _ _ (λ r l. l .high) (live look lo hi) (live-listed look lo hi order))
 
-refusal-low : (e l : List ℕ) (lo hi : ℕ) → docket-refusal e l lo hi ≤ 4
-refusal-low e l lo hi = go (eqb (table-refusal e l) 0) (bad-dockets lo hi) (table-refusal e l) (tables-refuse-low e l)
-  where
-    go : (a b : Bool) (r : ℕ) → r ≤ 3 → cond a (cond b 4 0) r ≤ 4
-    go true true r h = omega arith
-    go true false r h = omega arith
-    go false b r h = omega arith
-
 abbrev pub AnswerLow : Scanned → Type 0
 AnswerLow a = (a .count ≤ 65536) × (a .next ≤ 65535) × (a .refusal ≤ 4)
 
@@ -69,4 +58,4 @@ answer-low e l lo hi rows = by-cases (eqb (docket-refusal e l lo hi) 0)
     let high : hi ≤ 65535 = allowed-high e l lo hi z in
     let look : ℕ → Found ℕ = model.lookup (read-state e l .levels) in
     rw p (omega (arith, count-low look lo hi (length rows)), omega (arith, next-low look lo hi (length rows) (allowed-order e l lo hi z)), omega arith))
-    (λ p. rw p (omega arith, omega arith, refusal-low e l lo hi))
+    (λ p. rw p (omega arith, omega arith, dockets-refuse-low e l lo hi))
