@@ -1,4 +1,5 @@
-"""The script program: document 01's script, cases and edges, lines of every kind, how its input is cut, how its output ends, and random scripts."""
+"""The script program: document 01's script, cases and edges, lines of every kind, how its input is cut, calls that fail for a while, how its output ends, and
+random scripts."""
 import contextlib
 import os
 import random
@@ -6,8 +7,10 @@ import resource
 import select
 import signal
 import socket
+import struct
 import subprocess
 import tempfile
+import time
 import unittest
 
 import random_scripts
@@ -230,22 +233,76 @@ class Input(unittest.TestCase):
             self.assertEqual(program.wait(PATIENCE), 0)
 
 
+class Waiting(unittest.TestCase):
+    """Reads and writes that fail for a while are made again, and nothing is lost."""
+    stall = 0.5   # seconds
+
+    def test_an_output_that_does_not_wait(self):
+        """A pipe that refuses what it has no room for, and a reader that pauses."""
+        lines = 300000
+        read, write = os.pipe()
+        os.set_blocking(write, False)
+        with open(read, "rb") as output, tempfile.TemporaryFile() as script:
+            script.write(b"\n" * lines)
+            script.seek(0)
+            with started(stdin=script, stdout=write, stderr=subprocess.PIPE) as program:
+                os.close(write)
+                printed = b""
+                for size in (500000, 500000, -1):
+                    time.sleep(self.stall)
+                    printed += output.read(size)
+                self.assertEqual(program.wait(PATIENCE), 0)
+                self.assertEqual(program.stderr.read(), b"")
+        self.assertEqual(len(printed), lines * len(NO_FORM))
+        self.assertTrue(printed == NO_FORM * lines, "not one refusal for each line")
+
+    def test_an_input_that_does_not_wait(self):
+        read, write = os.pipe()
+        os.set_blocking(read, False)
+        with open(write, "wb", buffering=0) as script, started(stdin=read, stdout=subprocess.PIPE, stderr=subprocess.PIPE) as program:
+            os.close(read)
+            for piece in (INPUT[:50], INPUT[50:]):
+                time.sleep(self.stall)
+                script.write(piece)
+            time.sleep(self.stall)
+            script.close()
+            self.assertEqual(program.communicate(timeout=PATIENCE), (OUTPUT, b""))
+
+    def test_a_signal(self):
+        """Where a socket has a time limit, a read that a stop interrupted fails once the program goes on, though it handles no signal."""
+        ours, theirs = socket.socketpair()
+        theirs.setsockopt(socket.SOL_SOCKET, socket.SO_RCVTIMEO, struct.pack("ll", PATIENCE, 0))
+        with ours, started(stdin=theirs, stdout=subprocess.PIPE, stderr=subprocess.PIPE) as program:
+            theirs.close()
+            for piece in (INPUT[:50], INPUT[50:]):
+                ours.sendall(piece)
+                time.sleep(self.stall)
+                program.send_signal(signal.SIGSTOP)
+                program.send_signal(signal.SIGCONT)
+                time.sleep(self.stall)
+            ours.shutdown(socket.SHUT_WR)
+            self.assertEqual(program.communicate(timeout=PATIENCE), (OUTPUT, b""))
+
+
 class Output(unittest.TestCase):
     def run_closed(self, restore_signals):
-        """The status with an output that nobody reads and an input that stays open; nothing is said about it."""
+        """The status with an output that nobody reads and an input that stays open, and what is said about it."""
         read, write = os.pipe()
         os.close(read)
         with started(stdin=subprocess.PIPE, stdout=write, stderr=subprocess.PIPE, restore_signals=restore_signals) as program:
             os.close(write)
             program.stdin.write(INPUT)
-            status = program.wait(PATIENCE)
-            self.assertEqual(program.stderr.read(), b"")
-            return status
+            return program.wait(PATIENCE), program.stderr.read()
 
     def test_a_closed_output_ends_the_program(self):
-        self.assertIn(self.run_closed(restore_signals=True), (0, -signal.SIGPIPE))
+        self.assertEqual(self.run_closed(restore_signals=True), (-signal.SIGPIPE, b""))
         # Python ignores SIGPIPE, and so does then the program.
-        self.assertEqual(self.run_closed(restore_signals=False), 0)
+        self.assertEqual(self.run_closed(restore_signals=False), (0, b"run_script: the output was cut\n"))
+
+    def test_a_full_output_ends_the_program(self):
+        with open("/dev/full", "wb") as full, started(stdin=subprocess.PIPE, stdout=full, stderr=subprocess.PIPE) as program:
+            program.stdin.write(INPUT)
+            self.assertEqual((program.wait(PATIENCE), program.stderr.read()), (0, b"run_script: the output was cut\n"))
 
 
 class Random(unittest.TestCase):

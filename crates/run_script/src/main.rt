@@ -1,6 +1,8 @@
 // The script program of document 01: reads standard input and prints three numbers for each line.
-use libc::STDIN_FILENO;
-use libc::STDOUT_FILENO;
+mod retry;
+
+use retry::read_block;
+use retry::write_all;
 use script_buffer::Progress;
 use script_stream::feed;
 use script_stream::finish;
@@ -108,7 +110,7 @@ fn serve_block(
         length: m.length,
         waiting: 0,
     };
-    let n = io::count(libc::read(STDIN_FILENO, input), input);
+    let n = read_block(input);
     if n == 0 {
         let last = finish(entries, levels, line, output, start);
         return write_out(output, last, false);
@@ -122,7 +124,7 @@ fn write_out(output: &[u8], m: Progress, unread: bool) -> Served
     requires { ⌜ m .waiting ≤ length (now output) ⌝ }
     ensures { λ r. ⌜ (r .slots ≡ m .slots) × (r .deepest ≡ m .deepest) × (r .length ≡ m .length) ⌝ }
 {
-    let written = io::write_all(STDOUT_FILENO, &output[..m.waiting]);
+    let written = write_all(&output[..m.waiting]);
     Served {
         slots: m.slots,
         deepest: m.deepest,

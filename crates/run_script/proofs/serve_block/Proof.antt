@@ -9,8 +9,8 @@ use Rattle.run_script.proofs.serve_block.Tie as tie
 abbrev entry : tie.After-slice-known5 → tie.Start
 entry c = c .before .before .before .before .before
 
-abbrev read : tie.After-count → tie.After-read
-read c = c .before .before .before .before
+abbrev read : tie.After-slice-known6 → tie.After-read-block
+read c = c .before .before
 
 abbrev ended : tie.After-finish → tie.Then1
 ended c = c .before .before .before .before .before
@@ -33,11 +33,8 @@ told c = c .before .before .before .before .before
 abbrev next : tie.After-write-out2 → tie.After-slice-known13
 next c = c .before .before
 
-read-requires : tie.Need-read-requires
-read-requires c κs = search needs
-
-count-requires : tie.Need-count-requires
-count-requires c κs = search needs
+read-block-requires : tie.Need-read-block-requires
+read-block-requires c κs = search needs
 
 finish-requires : tie.Need-finish-requires
 finish-requires c κs = search needs
@@ -65,10 +62,10 @@ returns c =
     let done = finished (last c) in
     let f = done .finish in
     let got = read (ended done .before) in
-    let r = got .read in
+    let r = got .read-block in
     let s = entry (got .before .before) in
-    serves-on (f .last .0) (f .last .1 .0) (s .args .line .now) (r .last .1 .0) (f .last .1 .1 .1 .0) (f .result) (c .write-out .result)
-    (f .ensures .1 .0) (c .write-out .ensures) (r .kept .1 .0 ∙ s .pre .input-room) (f .kept .1 .1 .1 .0 ∙ s .pre .output-room)
+    serves-on (f .last .0) (f .last .1 .0) (s .args .line .now) (r .last .0) (f .last .1 .1 .1 .0) (f .result) (c .write-out .result)
+    (f .ensures .1 .0) (c .write-out .ensures) (r .kept .0 ∙ s .pre .input-room) (f .kept .1 .1 .1 .0 ∙ s .pre .output-room)
 
 slice-reshare-prefix-feed : tie.Need-slice-reshare-prefix-feed
 slice-reshare-prefix-feed c = search needs
@@ -102,17 +99,16 @@ returns-2 c =
     let done = fed (told (next c)) in
     let f = done .feed in
     let got = read (more (done .before .before) .before) in
-    let r = got .read in
+    let r = got .read-block in
     let s = entry (got .before .before) in
-    serves-on (f .last .1 .0) (f .last .1 .1 .0) (f .last .1 .1 .1 .0) (r .last .1 .0) (f .last .1 .1 .1 .1 .0) (f .result) (c .write-out2 .result)
-    (f .ensures .1 .0) (c .write-out2 .ensures) (r .kept .1 .0 ∙ s .pre .input-room) (f .kept .1 .1 .1 .1 .0 ∙ s .pre .output-room)
+    serves-on (f .last .1 .0) (f .last .1 .1 .0) (f .last .1 .1 .1 .0) (r .last .0) (f .last .1 .1 .1 .1 .0) (f .result) (c .write-out2 .result)
+    (f .ensures .1 .0) (c .write-out2 .ensures) (r .kept .0 ∙ s .pre .input-room) (f .kept .1 .1 .1 .1 .0 ∙ s .pre .output-room)
 
 pub serve-block-spec : {M : Type 1} → statement M
 serve-block-spec =
     tie.close
     (tie.spec
-    read-requires
-    count-requires
+    read-block-requires
     finish-requires
     write-out-requires
     same-length
