@@ -1,2 +1,3 @@
--- Room that stays.
+-- Room that stays, and turns that follow each other.
 pub mod Serves
+pub mod Runs

@@ -10,7 +10,8 @@ ghost use mathlib.Core.Path.{_≡_};
 ghost use Prim.Native.Nat.{_≤_};
 ghost use mathlib.Core.Bool.{true};
 ghost use lib.ListN.{length};
-ghost use Rattle.run_script.specs.Served.{Serving};
+ghost use Rattle.run_script.specs.Served.{Serving, begun};
+ghost use Rattle.run_script.specs.Turns.{Turn, Run, stands};
 
 // Where a script stands between two blocks, and whether it goes on: the input may have more, and the output takes it.
 struct Served {
@@ -75,8 +76,9 @@ fn serve(
     line: &mut [u8],
     input: &mut [u8],
     output: &mut [u8],
-)
-    requires { ⌜ Serving (now entries) (now levels) (now line) (now input) (now output) (record { slots = 0; deepest = 0; length = 0; more = true }) ⌝ }
+) -> Served
+    requires { ⌜ Serving (now entries) (now levels) (now line) (now input) (now output) begun ⌝ }
+    ensures { λ r. ⌜ Run (stands (now (entries .entry)) (now (levels .entry)) (now (line .entry)) (now (output .entry)) begun) (stands (now (entries .exit)) (now (levels .exit)) (now (line .exit)) (now (output .exit)) r) ⌝ }
 {
     let mut m = Served {
         slots: 0,
@@ -90,6 +92,7 @@ fn serve(
         m = serve_block(entries, levels, line, input, output, m);
         turns -= 1;
     }
+    m
 }
 
 // Reads a block and writes out what it prints before the next is read, so that whoever types sees each answer at once.
@@ -103,6 +106,7 @@ fn serve_block(
 ) -> Served
     requires { ⌜ Serving (now entries) (now levels) (now line) (now input) (now output) m ⌝ }
     ensures { λ r. ⌜ Serving (now (entries .exit)) (now (levels .exit)) (now (line .exit)) (now (input .exit)) (now (output .exit)) r ⌝ }
+    ensures { λ r. ⌜ Turn (now (input .exit)) (stands (now (entries .entry)) (now (levels .entry)) (now (line .entry)) (now (output .entry)) m) (stands (now (entries .exit)) (now (levels .exit)) (now (line .exit)) (now (output .exit)) r) (r .more) ⌝ }
 {
     let start = Progress {
         slots: m.slots,
@@ -123,6 +127,7 @@ fn serve_block(
 fn write_out(output: &[u8], m: Progress, unread: bool) -> Served
     requires { ⌜ m .waiting ≤ length (now output) ⌝ }
     ensures { λ r. ⌜ (r .slots ≡ m .slots) × (r .deepest ≡ m .deepest) × (r .length ≡ m .length) ⌝ }
+    ensures { λ r. ⌜ (r .more ≡ true → unread ≡ true) ⌝ }
 {
     let written = write_all(&output[..m.waiting]);
     Served {

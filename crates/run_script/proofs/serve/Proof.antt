@@ -1,8 +1,10 @@
--- `run_script::serve`: the loop keeps the room of every table and the state between two blocks, and each turn uses up one of its turns.
+-- `run_script::serve`: the loop keeps the room of every table, the state between two blocks and the blocks that led to it; each turn uses up one of its turns.
 use mathlib.Core.Path.{_≡_, refl}
 use borrow.Author.Needs.{needs}
 use lib.ListN.{length}
 use Rattle.run_script.specs.Served.{Serving}
+use Rattle.run_script.specs.Turns.{stands}
+use Rattle.run_script.proofs.Runs.{Going, begins, goes-further}
 use Rattle.run_script.proofs.serve.Statement.{statement}
 use Rattle.run_script.proofs.serve.Tie as tie
 
@@ -11,6 +13,7 @@ Inv-loop entries₀ levels₀ line₀ input₀ output₀ m₀ turns₀ entries l
     ((length entries ≡ length entries₀) × (length levels ≡ length levels₀) × (length line ≡ length line₀)
     × (length input ≡ length input₀) × (length output ≡ length output₀))
     × Serving entries levels line input output m
+    × Going (stands entries₀ levels₀ line₀ output₀ m₀) (stands entries levels line output m) (m .more)
 
 abbrev μ-loop : tie.MeasureT-loop
 μ-loop entries₀ levels₀ line₀ input₀ output₀ m₀ turns₀ entries levels line input output m turns = turns
@@ -29,7 +32,7 @@ abbrev turned : tie.After-slice-known10 Inv-loop μ-loop → tie.After-line Inv-
 turned c = c .before .before .before .before .before
 
 loop-holds : tie.Need-loop-holds Inv-loop μ-loop
-loop-holds c = ((refl, refl, refl, refl, refl), entry c .pre)
+loop-holds c = ((refl, refl, refl, refl, refl), entry c .pre, begins _ _)
 
 serve-block-requires : tie.Need-serve-block-requires Inv-loop μ-loop
 serve-block-requires c κs = turn c .before .before .loop .inv .1
@@ -41,7 +44,15 @@ loop-less : tie.Need-loop-less Inv-loop μ-loop
 loop-less c = search needs
 
 loop-again : tie.Need-loop-again Inv-loop μ-loop
-loop-again c = ((search needs, search needs, search needs, search needs, search needs), served (turned c) .serve-block .ensures)
+loop-again c =
+    let done = served (turned c) in
+    let b = done .serve-block in
+    let here = turn (done .before) in
+    let at-head = here .before .before .loop in (
+      (search needs, search needs, search needs, search needs, search needs),
+      b .ensures .0,
+      goes-further (here .if1 .taken) (at-head .inv .2) (b .ensures .1),
+    )
 
 same-length : tie.Need-same-length Inv-loop μ-loop
 same-length c = search needs
@@ -59,7 +70,7 @@ same-length-5 : tie.Need-same-length-5 Inv-loop μ-loop
 same-length-5 c = search needs
 
 returns : tie.Need-returns Inv-loop μ-loop
-returns c = search needs
+returns c = c .before .before .loop .inv .2 .run
 
 same-length-6 : tie.Need-same-length-6 Inv-loop μ-loop
 same-length-6 c = search needs
@@ -77,7 +88,7 @@ same-length-10 : tie.Need-same-length-10 Inv-loop μ-loop
 same-length-10 c = search needs
 
 returns-2 : tie.Need-returns-2 Inv-loop μ-loop
-returns-2 c = search needs
+returns-2 c = c .before .loop .inv .2 .run
 
 pub serve-spec : {M : Type 1} → statement M
 serve-spec =

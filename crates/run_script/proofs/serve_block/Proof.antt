@@ -1,7 +1,11 @@
 -- `run_script::serve_block`: reading, feeding or finishing, and writing out each leave the room and the state that the next one asks for.
-use mathlib.Core.Path.{_∙_}
-use Rattle.run_script.proofs.Serves.{serves-on}
+use mathlib.Core.Path.{_∙_, ap}
+use mathlib.Core.Bool.{false≢true}
+use native.Mathlib.Omega.{arith}
 use borrow.Author.Needs.{needs}
+use borrow.Author.Tests.{ne-eqb}
+use Rattle.script_stream.specs.Blocks.{written}
+use Rattle.run_script.proofs.Serves.{serves-on, stands-written}
 use Rattle.run_script.proofs.serve_block.Statement.{statement}
 use Rattle.run_script.proofs.serve_block.Tie as tie
 
@@ -64,8 +68,16 @@ returns c =
     let got = read (ended done .before) in
     let r = got .read-block in
     let s = entry (got .before .before) in
-    serves-on (f .last .0) (f .last .1 .0) (s .args .line .now) (r .last .0) (f .last .1 .1 .1 .0) (f .result) (c .write-out .result)
-    (f .ensures .1 .0) (c .write-out .ensures) (r .kept .0 ∙ s .pre .input-room) (f .kept .1 .1 .1 .0 ∙ s .pre .output-room)
+    let w = c .write-out in (
+      serves-on (f .last .0) (f .last .1 .0) (s .args .line .now) (r .last .0) (f .last .1 .1 .1 .0) (f .result) (w .result)
+          (f .ensures .1 .0) (w .ensures .0) (r .kept .0 ∙ s .pre .input-room) (f .kept .1 .1 .1 .0 ∙ s .pre .output-room),
+      record {
+        count = 0;
+        within = omega arith;
+        leads = stands-written (f .last .0) (f .last .1 .0) (s .args .line .now) (f .last .1 .1 .1 .0) (f .result) (w .result) (w .ensures .0) ∙ ap written (f .ensures .0);
+        goes-on = λ on. absurd (false≢true (w .ensures .1 on));
+      },
+    )
 
 slice-reshare-prefix-feed : tie.Need-slice-reshare-prefix-feed
 slice-reshare-prefix-feed c = search needs
@@ -98,11 +110,24 @@ returns-2 : tie.Need-returns-2
 returns-2 c =
     let done = fed (told (next c)) in
     let f = done .feed in
-    let got = read (more (done .before .before) .before) in
+    let here = more (done .before .before) in
+    let some = ne-eqb _ 0 (here .if1 .left) in
+    let got = read (here .before) in
     let r = got .read-block in
     let s = entry (got .before .before) in
-    serves-on (f .last .1 .0) (f .last .1 .1 .0) (f .last .1 .1 .1 .0) (r .last .0) (f .last .1 .1 .1 .1 .0) (f .result) (c .write-out2 .result)
-    (f .ensures .1 .0) (c .write-out2 .ensures) (r .kept .0 ∙ s .pre .input-room) (f .kept .1 .1 .1 .1 .0 ∙ s .pre .output-room)
+    let w = c .write-out2 in (
+      serves-on (f .last .1 .0) (f .last .1 .1 .0) (f .last .1 .1 .1 .0) (r .last .0) (f .last .1 .1 .1 .1 .0) (f .result) (w .result)
+          (f .ensures .1 .0) (w .ensures .0) (r .kept .0 ∙ s .pre .input-room) (f .kept .1 .1 .1 .1 .0 ∙ s .pre .output-room),
+      record {
+        count = r .result;
+        within = r .ensures .0;
+        leads =
+            rw some
+            (stands-written (f .last .1 .0) (f .last .1 .1 .0) (f .last .1 .1 .1 .0) (f .last .1 .1 .1 .1 .0) (f .result) (w .result) (w .ensures .0)
+            ∙ ap written (f .ensures .0));
+        goes-on = λ _. some;
+      },
+    )
 
 pub serve-block-spec : {M : Type 1} → statement M
 serve-block-spec =
