@@ -16,9 +16,9 @@ prints m (text ∷ rest) =
     let r = line-step (line-of (bytes text)) m in
     r .printed ∷ prints (r .memory) rest
 
--- Room for ten slots and six levels, and no store.
+-- The program's memory, and no store.
 abbrev pub no-store : Memory
-no-store = record { entries = replicate 44 0; levels = replicate 32 0; slots = 0; deepest = 0 }
+no-store = record { entries = replicate 16004 0; levels = replicate 32 0; slots = 0; deepest = 0 }
 
 abbrev pub three : ℕ → ℕ → ℕ → Printed
 three a b c = record { first = a; second = b; third = c }

@@ -12,7 +12,7 @@ script-input = "M 6 3 2 2 9\nP 1 7 70\nP 1 8 80\nD 2 7\nP 3 9 90\nG 7\nP 4 7 71\
 abbrev pub script-output : String
 script-output = "0 0 0\n0 0 0\n0 1 0\n0 0 0\n0 1 1\n0 0 0\n0 0 0\n0 1 0\n0 1 71\n0 1 1\n5 0 0\n"
 
--- The input prints the output, in memory that is large enough for the cases.
+-- The input prints the output, in the program's memory.
 abbrev pub prints : String → String → Type 0
 prints input output = output-of no-store (lines-in (bytes input)) ≡ bytes output
 
