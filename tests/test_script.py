@@ -268,6 +268,13 @@ class Waiting(unittest.TestCase):
             script.close()
             self.assertEqual(program.communicate(timeout=PATIENCE), (OUTPUT, b""))
 
+    def test_an_input_that_fails_for_good(self):
+        """A directory, which no waiting makes readable."""
+        folder = os.open("/", os.O_RDONLY)
+        with started(stdin=folder, stdout=subprocess.PIPE, stderr=subprocess.PIPE) as program:
+            os.close(folder)
+            self.assertEqual(program.communicate(timeout=PATIENCE), (b"", b"run_script: the input was cut\n"))
+
     def test_a_signal(self):
         """Where a socket has a time limit, a read that a stop interrupted fails once the program goes on, though it handles no signal."""
         ours, theirs = socket.socketpair()

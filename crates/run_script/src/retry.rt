@@ -1,21 +1,20 @@
-// Standard input and output, where a call that a signal stopped, or that had to wait, is made again.
+// Standard input and output, where a call that a signal stopped, or that would have to wait, is made again. A proved loop has to
+// end: it counts its tries down from a number that no run uses up.
 use libc::EAGAIN;
 use libc::EINTR;
 use libc::STDERR_FILENO;
 use libc::STDIN_FILENO;
 use libc::STDOUT_FILENO;
+use libc::types::timespec;
 ghost use Prim.Native.Nat.{_≤_, _<_};
 ghost use lib.ListN.{length};
 ghost use Rattle.io.specs.Counts.{Counts};
-
-// How often a call that moves nothing is made again. Other programs run in between, so this takes half a minute or more.
-const TRIES: u64 = 50000000;
 
 // Reads a block to the start of the input's room and answers its length: 0 at the end of the input, or where no more can be read.
 pub fn read_block(input: &mut [u8]) -> usize
     ensures { λ r. ⌜ Counts r (now (input .exit)) ⌝ }
 {
-    let mut tries = TRIES;
+    let mut tries = u64::MAX;
     let mut got = libc::read(STDIN_FILENO, input);
     while tries > 0 && got < 0 {
         tries = tries_left(tries);
@@ -45,7 +44,7 @@ pub fn write_all(bytes: &[u8]) -> bool {
 fn write_some(bytes: &[u8]) -> usize
     ensures { λ r. ⌜ r ≤ length (now (bytes .entry)) ⌝ }
 {
-    let mut tries = TRIES;
+    let mut tries = u64::MAX;
     let mut took = libc::write(STDOUT_FILENO, bytes);
     while tries > 0 && took < 0 {
         tries = tries_left(tries);
@@ -54,7 +53,7 @@ fn write_some(bytes: &[u8]) -> usize
     io::count(took, bytes)
 }
 
-// After a call that failed, how often it is made again: once less, after others had their turn, or not if waiting does not help.
+// How many tries are left after one that failed: one fewer, after a pause, or none where waiting does not help.
 fn tries_left(tries: u64) -> u64
     requires { ⌜ 0 < tries ⌝ }
     ensures { λ r. ⌜ r < tries ⌝ }
@@ -63,6 +62,19 @@ fn tries_left(tries: u64) -> u64
     if error != EINTR && error != EAGAIN {
         return 0;
     }
-    libc::sched_yield();
+    pause();
     tries - 1
+}
+
+// Waits for a thousandth of a second.
+fn pause() {
+    let asked = timespec {
+        tv_sec: 0,
+        tv_nsec: 1000000,
+    };
+    let mut left = timespec {
+        tv_sec: 0,
+        tv_nsec: 0,
+    };
+    libc::nanosleep(&asked, &mut left);
 }
