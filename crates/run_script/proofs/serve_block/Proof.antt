@@ -74,7 +74,9 @@ returns c =
       record {
         count = 0;
         within = omega arith;
-        leads = stands-written (f .last .0) (f .last .1 .0) (s .args .line .now) (f .last .1 .1 .1 .0) (f .result) (w .result) (w .ensures .0) ∙ ap written (f .ensures .0);
+        leads =
+            stands-written (f .last .0) (f .last .1 .0) (s .args .line .now) (f .last .1 .1 .1 .0) (f .result) (w .result) (w .ensures .0)
+            ∙ ap written (f .ensures .0);
         goes-on = λ on. absurd (false≢true (w .ensures .1 on));
       },
     )
