@@ -9,7 +9,7 @@ use script_stream::finish;
 ghost use mathlib.Core.Path.{_≡_};
 ghost use Prim.Native.Nat.{_≤_};
 ghost use mathlib.Core.Bool.{true};
-ghost use lib.ListN.{length};
+ghost use lib.ListN.{length, replicate};
 ghost use Rattle.run_script.specs.Served.{Serving, begun};
 ghost use Rattle.run_script.specs.Turns.{Turn, Run, stands};
 
@@ -36,16 +36,18 @@ fn main() {
     );
 }
 
-// Words for 4,000 slots.
+// Words for 4,000 slots, all 0 as in the script's cases.
 fn entry_room() -> [u32; 16004]
     ensures { λ r. ⌜ 16004 ≡ length r ⌝ }
+    ensures { λ r. ⌜ r ≡ replicate 16004 0 ⌝ }
 {
     [0; 16004]
 }
 
-// Words for six levels.
+// Words for six levels, likewise.
 fn level_room() -> [u32; 32]
     ensures { λ r. ⌜ 32 ≡ length r ⌝ }
+    ensures { λ r. ⌜ r ≡ replicate 32 0 ⌝ }
 {
     [0; 32]
 }
