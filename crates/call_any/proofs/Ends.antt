@@ -25,12 +25,6 @@ use Rattle.tables.proofs.Whole.{whole}
 use Rattle.call_prepare.specs.declared.Prepared.{Prepared}
 use Rattle.call_prepare.specs.Writing.{Prepares}
 
--- An operation writes one record at most.
-pub written-most : (op : Op ℕ) → count-written op ≤ 1
-written-most (written v) = omega arith
-written-most flush = omega arith
-written-most tick = omega arith
-
 -- A call that is turned away by the number that the code found.
 pub away : {e l : List ℕ} {t : ℕ} {op : Op ℕ} {n : ℕ} → Asked e l t op n → n ≢ 0 → (r : Answer) → answer-of r ≡ refusing n
     → called e l r ≡ call-tables (lent e l) (record { clock = t; op = op })

@@ -25,6 +25,12 @@ use Rattle.call_tables.specs.Calls.{Tables, Called, wrote, call-tables}
 use Rattle.tables.proofs.Numbers.{tables-refuse-low}
 use Rattle.call_tables.proofs.Refusals.{refused-exactly}
 
+-- An operation writes one record at most.
+pub written-most : (op : Op ℕ) → count-written op ≤ 1
+written-most (written v) = omega arith
+written-most flush = omega arith
+written-most tick = omega arith
+
 module _ (w : Tables) (c : Call ℕ) where
   abbrev p : State ℕ ℕ
   p = read-state (w .entries) (w .levels)
@@ -56,11 +62,6 @@ module _ (w : Tables) (c : Call ℕ) where
   step-most low high =
       by-cases (accepted p c) (λ a. omega (arith, merges-most p c low a, most (c .op) high))
       (λ a. omega (arith, ap (λ r. r .merges) (model.refused-answer p c a)))
-
-  written-most : (op : Op ℕ) → count-written op ≤ 1
-  written-most (written v) = omega arith
-  written-most flush = omega arith
-  written-most tick = omega arith
 
   -- No more can be purged than n slots held and one written.
   step-purged : (n : ℕ) → Whole n p → step p c .answer .purged ≤ n + 1

@@ -9,7 +9,8 @@ use Rattle.tables.specs.Placed.{read-state}
 use Rattle.call_refusal.proofs.Begun.{begun-laid}
 use Rattle.merge_levels.proofs.Free.{laid-rows}
 use Rattle.call_op.specs.Ops.{op-of}
-use Rattle.call_any.proofs.Ends.{written-most, ending, ends, full}
+use Rattle.call_tables.proofs.Bounds.{written-most}
+use Rattle.call_any.proofs.Ends.{ending, ends, full}
 use Rattle.call_any.proofs.carry_out.Statement.{statement}
 use Rattle.call_any.proofs.carry_out.Tie as tie
 
