@@ -9,7 +9,7 @@ use Rattle.settings.proofs.Allowed.{allowed-bounds}
 use Rattle.model.specs.Records.{State, held-all}
 use Rattle.model.specs.Steps.{Work, begin, merge-all, crowded, make-room, write, pass}
 use Rattle.model.specs.Calls.{Op, written, flush, tick, Call, refusing, count-written, timed, prepared, step}
-use Rattle.model.proofs.StepView.{worked, accepted-outcome, step-accepts, step-refuses}
+use Rattle.model.proofs.StepView.{let-in, worked, accepted-outcome, step-accepts, step-refuses}
 use Rattle.model.proofs.Numbers.{held-most, merge-level-merges, merge-all-merges}
 use Rattle.model.proofs.Counted.{add, pass-after}
 use Rattle.tables.specs.Slots.{slots-of}
@@ -87,7 +87,7 @@ module _ {e l : List ℕ} {t : ℕ} {op : Op ℕ} (b : Began e l t op) where
     pub full : r .full ≡ true → {a : Answer} → answer-of a ≡ refusing 7 → called e′ l′ a ≡ call-tables (lent e l) c
     full is q =
         rw (d .merged is .0, d .merged is .1, q)
-        (sym (call-steps ∙ ap (wrote (slots-of e)) (step-refuses p c (b .dockets) (begun-time b) (sym (d .full-is) ∙ is))))
+        (sym (call-steps ∙ ap (wrote (slots-of e)) (step-refuses p c (let-in (p .clock) c (b .dockets) (begun-time b)) (sym (d .full-is) ∙ is))))
 
     module _ (done : r .full ≡ false) {before : ℕ} (adds : before ≡ held-all (p .levels) + count-written op) where
       pub ending : Ending (at-state (store e l t) (work .state)) e′ l′ t before (r .merges)
@@ -97,4 +97,4 @@ module _ {e l : List ℕ} {t : ℕ} {op : Op ℕ} (b : Began e l t op) where
           → called e″ l″ a ≡ call-tables (lent e l) c
       ends f =
           rw (f .entries, f .levels, f .answer, d .works done .counts, adds)
-          (sym (call-steps ∙ ap (wrote (slots-of e)) (step-accepts p c (b .dockets) (begun-time b) (sym (d .full-is) ∙ done) ∙ accepted-is)))
+          (sym (call-steps ∙ ap (wrote (slots-of e)) (step-accepts p c (let-in (p .clock) c (b .dockets) (begun-time b)) (sym (d .full-is) ∙ done) ∙ accepted-is)))

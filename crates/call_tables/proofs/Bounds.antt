@@ -9,11 +9,12 @@ use Rattle.lists.proofs.Bools.{cond-elim, by-cases}
 use Rattle.settings.proofs.Allowed.{allowed-bounds}
 use Rattle.model.specs.Records.{State}
 use Rattle.model.specs.Steps.{crowded}
-use Rattle.model.specs.Calls.{Op, written, flush, tick, Call, Answer, bad-docket, count-written, bad-clock, out-of-slots, refusing, step}
+use Rattle.model.specs.Calls.{Op, written, flush, tick, Call, Answer, count-written, early-refusal, out-of-slots, refusing, step}
 use Rattle.model.specs.Erasure.{accepted}
 use Rattle.model.proofs.Slots.{Whole}
 use Rattle.model.proofs.Numbers.{purged-sum, most-merges, merges-most}
 use Rattle.model.proofs.Demands as model
+use Rattle.model.proofs.StepView.{early-most}
 use Rattle.tables.specs.Words.{Fits32}
 use Rattle.tables.specs.Slots.{slots-of}
 use Rattle.tables.specs.Sound.{table-refusal}
@@ -40,14 +41,13 @@ module _ (w : Tables) (c : Call ℕ) where
   refusal-most =
       let t : ℕ = table-refusal (w .entries) (w .levels) in
       let low = tables-refuse-low (w .entries) (w .levels) in
-      omega (arith, refused-exactly w c, go (eqb t 0) (bad-docket (c .op)) (bad-clock (c .clock) (p .clock)) (out-of-slots (c .clock) (c .op) p) t low)
+      omega (arith, refused-exactly w c, go (eqb t 0) (eqb (early-refusal (p .clock) c) 0) (out-of-slots (c .clock) (c .op) p) t low)
     where
-      go : (a d b o : Bool) (t : ℕ) → t ≤ 3 → cond a (cond d 4 (cond b 5 (cond o 7 0))) t ≤ 7
-      go true true b o t h = omega arith
-      go true false true o t h = omega arith
-      go true false false true t h = omega arith
-      go true false false false t h = omega arith
-      go false d b o t h = omega arith
+      go : (a b o : Bool) (t : ℕ) → t ≤ 3 → cond a (cond b (cond o 7 0) (early-refusal (p .clock) c)) t ≤ 7
+      go true true true t h = omega arith
+      go true true false t h = omega arith
+      go true false o t h = omega (arith, early-most (p .clock) c)
+      go false b o t h = omega arith
 
   most : (op : Op ℕ) → p .settings .deepest ≤ 6 → most-merges (c .clock) op p ≤ 12
   most (written v) h = room (crowded (c .clock) v p)

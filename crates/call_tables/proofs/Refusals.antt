@@ -10,9 +10,9 @@ use Rattle.settings.proofs.Allowed.{allowed-bounds}
 use Rattle.lists.proofs.Bools.{by-cases, cond-ap}
 use Rattle.model.specs.Records.{State}
 use Rattle.model.specs.Steps.{delete, delete-range, merge-all, no-slot}
-use Rattle.model.specs.Calls.{Call, Outcome, written, bad-docket, bad-clock, out-of-slots, refusing, step}
+use Rattle.model.specs.Calls.{Call, Outcome, written, early-refusal, out-of-slots, refusing, step}
 use Rattle.model.specs.Erasure.{accepted}
-use Rattle.model.proofs.StepView.{StepView, refused-4, refused-5, refused-7, passed, step-view, accepted-outcome}
+use Rattle.model.proofs.StepView.{early-other, StepView, turned-away, refused-7, passed, step-view, accepted-outcome}
 use Rattle.model.proofs.PlainMaps.{merge-all-clock}
 use Rattle.model.proofs.Demands as model
 use Rattle.tables.specs.Words.{Fits32}
@@ -61,10 +61,9 @@ module _ (w : Tables) (c : Call ℕ) where
   step-full = go (step p c) (step-view p c)
     where
       go : (r : Outcome ℕ ℕ) → StepView p c r → r .answer .refusal ≡ 7 → r .state ≡ merge-all p .state
-      go r (refused-4 d) h = absurd (omega arith)
-      go r (refused-5 d e) h = absurd (omega arith)
-      go r (refused-7 d e f) h = refl
-      go r (passed d e f) h = absurd (omega arith)
+      go r (turned-away e) h = absurd (early-other (p .clock) c .0 h)
+      go r (refused-7 e f) h = refl
+      go r (passed e f) h = absurd (omega arith)
 
   -- Under 7 "tables stay merged, clock as before".
   pub refused-7-leaves : call-tables w c .answer .refusal ≡ 7 → call-tables w c .tables ≡ merged-tables w
@@ -98,13 +97,12 @@ module _ (w : Tables) (c : Call ℕ) where
 
   -- A delete is never refused for lack of a slot, nor is anything but a put.
   pub never-full : out-of-slots (c .clock) (c .op) p ≡ false → call-tables w c .answer .refusal ≢ 7
-  never-full f h = go (eqb t 0) (bad-docket (c .op)) (bad-clock (c .clock) (p .clock)) (rw f at (sym refused-exactly ∙ h))
+  never-full f h = go (eqb t 0) (eqb (early-refusal (p .clock) c) 0) (rw f at (sym refused-exactly ∙ h))
     where
-      go : (a d b : Bool) → cond a (cond d 4 (cond b 5 (cond false 7 0))) t ≡ 7 → ⊥
-      go true true b q = absurd (omega arith)
-      go true false true q = absurd (omega arith)
-      go true false false q = absurd (omega arith)
-      go false d b q = absurd (omega (arith, tables-refuse-low (w .entries) (w .levels)))
+      go : (a b : Bool) → cond a (cond b (cond false 7 0) (early-refusal (p .clock) c)) t ≡ 7 → ⊥
+      go true true q = absurd (omega arith)
+      go true false q = early-other (p .clock) c .0 q
+      go false b q = absurd (omega (arith, tables-refuse-low (w .entries) (w .levels)))
 
 module _ (w : Tables) where
   pub delete-never-full : (t k : ℕ) → call-tables w (record { clock = t; op = written (delete k) }) .answer .refusal ≢ 7

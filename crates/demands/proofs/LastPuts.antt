@@ -146,7 +146,8 @@ module _ (n k : ℕ) where
 accepted-docket : (n : ℕ) (m : PlainMap ℕ) (cs : List (Call ℕ)) (i : ℕ) → refusal-at (map-refusals n m cs) i ≡ 0 → bad-docket (call-at cs i .op) ≡ false
 unfolding map-refusals map-refusal
 accepted-docket n m [] i q = absurd (omega arith)
-accepted-docket n m (c ∷ cs) zero q = by-cases (bad-docket (c .op)) (λ b. let four : _≡_ {A = ℕ} 4 0 = rw b at q in absurd (omega arith)) (λ b. b)
+accepted-docket n m (c ∷ cs) zero q =
+    by-cases (bad-docket (c .op)) (λ b. let four : _≡_ {A = ℕ} 4 0 = rw b at q in absurd (omega arith)) (λ b. b)
 accepted-docket n m (c ∷ cs) (suc i) q = accepted-docket n (map-step n m c) cs i q
 
 answered-found : (f : Found ℕ) (a t : ℕ) → answered f ≡ answer.Found a t → f ≡ found a t

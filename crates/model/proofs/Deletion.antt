@@ -19,7 +19,7 @@ use Rattle.model.specs.Calls.{written, Call, prepared, step, run}
 use Rattle.model.specs.Erasure.{accepted, pass-merges, merged-in}
 use Rattle.model.proofs.Coverage.{covers-one}
 use Rattle.model.proofs.Keeps.{Kept, merge-all-keeps, pass-keeps, has-room}
-use Rattle.model.proofs.StepView.{worked, accepted-outcome, Accepted, accepted-ends}
+use Rattle.model.proofs.StepView.{worked, accepted-outcome, let-in-time, Accepted, accepted-ends}
 use Rattle.model.proofs.Deepest.{only-set, Drained, merge-all-drained}
 use Rattle.model.proofs.LookupSteps.{full-room}
 use Rattle.model.proofs.Marks.{Mark, Clean, CleanLevel, KeyedLevel, reaches, staying-clean}
@@ -70,7 +70,7 @@ module _ {S A : Type 0} (k : ℕ) (s : State S (Mark A)) (c : Call (Mark A)) (w 
   keyed = rw is (quiet-keyed k w (delete-quiet k w covers))
 
   positive : 0 < c .clock
-  positive = omega (arith, eqb-false (c .clock) 0 (or-false-left (eqb (c .clock) 0) (ltb (c .clock) (s .clock)) (ends .time)))
+  positive = omega (arith, eqb-false (c .clock) 0 (or-false-left (eqb (c .clock) 0) (ltb (c .clock) (s .clock)) (let-in-time (s .clock) c (ends .admitted))))
 
   mk : Kept {S = S} (MarksOf k) c
   mk = marks-of-kept k c keyed

@@ -20,7 +20,7 @@ use Rattle.model.specs.PlainMap.{get, map-run, map-refusals, no-rows}
 use Rattle.model.specs.Erasure.{retally, accepted, Erased}
 use Rattle.model.specs.Renaming.{map-state, map-call}
 use Rattle.model.proofs.Slots.{Whole, slots, run-whole, fresh-whole}
-use Rattle.model.proofs.StepView.{worked, accepted-outcome, StepView, refused-4, refused-5, refused-7, passed, step-view, accepted-ends}
+use Rattle.model.proofs.StepView.{worked, accepted-outcome, StepView, turned-away, refused-7, passed, early-other, step-view, accepted-ends}
 use Rattle.model.proofs.Settle.{pass-leaves-none-due}
 use Rattle.model.proofs.Numbers.{purged-sum, most-merges, merges-most, prepared-settings}
 use Rattle.model.proofs.Deepest.{Drained, merge-all-drained}
@@ -38,20 +38,18 @@ module _ {S A : Type 0} (s : State S A) (c : Call A) where
   refused-exactly = go (step s c) (step-view s c)
     where
       go : (r : Outcome S A) → StepView s c r → r .answer .refusal ≡ refusal-number s c
-      go r (refused-4 d) = rw d
-      go r (refused-5 d e) = rw (d, e)
-      go r (refused-7 d e f) = rw (d, e, f)
-      go r (passed d e f) = rw (d, e, f)
+      go r (turned-away e) = rw e
+      go r (refused-7 e f) = rw (e, f)
+      go r (passed e f) = rw (e, f)
 
   pub never-8 : step s c .answer .refusal ≢ 8
   unfolding accepted-outcome
   never-8 = go (step s c) (step-view s c)
     where
       go : (r : Outcome S A) → StepView s c r → r .answer .refusal ≢ 8
-      go r (refused-4 d) = omega arith
-      go r (refused-5 d e) = omega arith
-      go r (refused-7 d e f) = omega arith
-      go r (passed d e f) = omega arith
+      go r (turned-away e) = early-other (s .clock) c .1
+      go r (refused-7 e f) = omega arith
+      go r (passed e f) = omega arith
 
   -- "A refusal gives its number and zeros. Tables … are unchanged, save under 7".
   pub refused-answer : accepted s c ≡ false → step s c .answer ≡ refusing (refusal-number s c)
@@ -59,20 +57,18 @@ module _ {S A : Type 0} (s : State S A) (c : Call A) where
   refused-answer = go (step s c) (step-view s c)
     where
       go : (r : Outcome S A) → StepView s c r → eqb (r .answer .refusal) 0 ≡ false → r .answer ≡ refusing (refusal-number s c)
-      go r (refused-4 d) h = rw d
-      go r (refused-5 d e) h = rw (d, e)
-      go r (refused-7 d e f) h = rw (d, e, f)
-      go r (passed d e f) h = absurd (false≢true (sym h))
+      go r (turned-away e) h = rw e
+      go r (refused-7 e f) h = rw (e, f)
+      go r (passed e f) h = absurd (false≢true (sym h))
 
   pub refused-unchanged : accepted s c ≡ false → step s c .answer .refusal ≢ 7 → step s c .state ≡ s
   unfolding accepted accepted-outcome
   refused-unchanged = go (step s c) (step-view s c)
     where
       go : (r : Outcome S A) → StepView s c r → eqb (r .answer .refusal) 0 ≡ false → r .answer .refusal ≢ 7 → r .state ≡ s
-      go r (refused-4 d) h n = refl
-      go r (refused-5 d e) h n = refl
-      go r (refused-7 d e f) h n = absurd (n refl)
-      go r (passed d e f) h n = absurd (false≢true (sym h))
+      go r (turned-away e) h n = refl
+      go r (refused-7 e f) h n = absurd (n refl)
+      go r (passed e f) h n = absurd (false≢true (sym h))
 
   -- "after a pass no level from 1 to L−1 is over its capacity or limit"
   pub accepted-settles : 0 < s .settings .deepest → accepted s c ≡ true → (i : ℕ) → 1 ≤ i → i < s .settings .deepest
@@ -126,10 +122,9 @@ module _ {S A : Type 0} (settings : Settings) (ok : allowed settings ≡ true) (
       d = merge-all-drained made (whole .formed)
 
       go : (r : Outcome S A) → StepView made c r → r .answer .refusal ≡ 7 → MergedDown made (r .state)
-      go r (refused-4 a) e = absurd (omega arith)
-      go r (refused-5 a b) e = absurd (omega arith)
-      go r (refused-7 a b f) e = record { clock = merge-all-clock made positive; settings = d .same; deepest = d .source; levels = d .levels }
-      go r (passed a b f) e = absurd (omega arith)
+      go r (turned-away a) e = absurd (early-other (made .clock) c .0 e)
+      go r (refused-7 a f) e = record { clock = merge-all-clock made positive; settings = d .same; deepest = d .source; levels = d .levels }
+      go r (passed a f) e = absurd (omega arith)
 
   -- DEMAND 2: from a fresh store, lookups and scans answer as a map does, and calls are refused as by a map of as many places.
   alike : Alike (length slots) made (map-run (length slots) no-rows cs)

@@ -14,12 +14,12 @@ use Rattle.lists.proofs.Bools.{cond-elim, by-cases, both-false, and-left, and-r
 use Rattle.lists.proofs.Loops.{iterate-holds}
 use Rattle.model.specs.Records.{Level, State, level, held}
 use Rattle.model.specs.Steps.{Work, Write, begin, merge-state, merge-level, merge-all, enter, act-deepest, crowded, make-room, full, write, buffer-due, due, pass-buffer, pass-level, pass}
-use Rattle.model.specs.Calls.{Op, written, flush, tick, Call, Outcome, bad-docket, bad-clock, timed, prepared, step, run}
+use Rattle.model.specs.Calls.{Op, written, flush, tick, Call, Outcome, early-refusal, timed, prepared, step, run}
 use Rattle.model.specs.Erasure.{pass-merges, merges-before, merges-buffer, merged-in}
 use Rattle.model.proofs.Keeps.{Kept, pass-keeps, pass-buffer-keeps, pass-rest-keeps, prepared-kept, step-keeps, has-room}
 use Rattle.model.proofs.Form.{Formed, formed-kept}
 use Rattle.model.proofs.Settle.{pass-buffer-settings}
-use Rattle.model.proofs.StepView.{worked, accepted-outcome, StepView, refused-4, refused-5, refused-7, passed, step-view}
+use Rattle.model.proofs.StepView.{worked, accepted-outcome, StepView, turned-away, refused-7, passed, step-view}
 use Rattle.model.proofs.Marks.{Mark, Since}
 use Rattle.model.proofs.Sinking.{Sunk, erased, below, SunkFrom, from-advance, from-skip, from-end, from-clean}
 use Rattle.model.proofs.MarkedSteps.{Quiet, fits, NoMark, Sinking, no-mark-kept, sinking-kept}
@@ -112,14 +112,13 @@ module _ {S A : Type 0} (k d : ℕ) where
       prep = prepared-kept (Sinking k d 1) c sk s (f .deep)
 
       go : (r : Outcome S (Mark A)) → StepView s c r → Fated k d (r .state)
-      go r (refused-4 a) = f
-      go r (refused-5 a b) = f
-      go r (refused-7 a b g) = clean-fated (merge-all s .state) (merge-all-erases k d s (f .deep .0, below-buffer (s .levels) (f .deep .1)))
+      go r (turned-away a) = f
+      go r (refused-7 a g) = clean-fated (merge-all s .state) (merge-all-erases k d s (f .deep .0, below-buffer (s .levels) (f .deep .1)))
         where
           below-buffer : (ls : List (Level S (Mark A))) → SunkFrom k d 1 ls → Sunk k d ls
           below-buffer [] p = erased tt
           below-buffer (l ∷ ls) p = below (p .0) (p .1)
-      go r (passed a b g) = pass-fated c q (prepared (c .clock) (c .op) s) (prep .0)
+      go r (passed a g) = pass-fated c q (prepared (c .clock) (c .op) s) (prep .0)
           (pass-buffer-keeps (Sinking k d 1) (sk .deep) (sk .merging) (prepared (c .clock) (c .op) s .state .settings) (prepared (c .clock) (c .op) s) (prep, refl) .0)
 
   -- The buffer is merged first: what lay in it lies below.
@@ -146,11 +145,11 @@ module _ {S A : Type 0} (k d : ℕ) where
   unfolding merges-buffer
   step-merges s c q p h = go (step s c) (step-view s c)
     where
-      early : not (bad-docket (c .op) || bad-clock (c .clock) (s .clock)) ≡ true
+      early : eqb (early-refusal (s .clock) c) 0 ≡ true
       early = and-left _ (merges-before (c .clock) (c .op) s || pass-merges s c) h
 
       merging : merges-before (c .clock) (c .op) s || pass-merges s c ≡ true
-      merging = and-right (not (bad-docket (c .op) || bad-clock (c .clock) (s .clock))) _ h
+      merging = and-right (eqb (early-refusal (s .clock) c) 0) _ h
 
       before : (op : Op (Mark A)) → c .op ≡ op → merges-before (c .clock) op s ≡ true → Fated k d (accepted-outcome s c .state)
       before (written w) e b = clean-fated _ (step-no-mark s c q (rw e (unfold prepared in crowded-erases c q w e s b p)))
@@ -168,10 +167,9 @@ module _ {S A : Type 0} (k d : ℕ) where
           unfold accepted-outcome worked in pass-fated c q (prepared (c .clock) (c .op) s) (prep .0) (merged-below c q (prepared (c .clock) (c .op) s) (unfold pass-merges in b) prep)
 
       go : (r : Outcome S (Mark A)) → StepView s c r → Fated k d (r .state)
-      go r (refused-4 a) = absurd (false≢true (rw a at early))
-      go r (refused-5 a b) = absurd (false≢true (rw (a, b) at early))
-      go r (refused-7 a b g) = clean-fated (merge-all s .state) (merge-all-erases k d s p)
-      go r (passed a b g) = by-cases (merges-before (c .clock) (c .op) s) (before (c .op) refl) (λ n. inside (or-second (merges-before (c .clock) (c .op) s) (pass-merges s c) merging n))
+      go r (turned-away a) = absurd (false≢true (sym a ∙ early))
+      go r (refused-7 a g) = clean-fated (merge-all s .state) (merge-all-erases k d s p)
+      go r (passed a g) = by-cases (merges-before (c .clock) (c .op) s) (before (c .op) refl) (λ n. inside (or-second (merges-before (c .clock) (c .op) s) (pass-merges s c) merging n))
 
   -- Over the calls that follow.
   pub run-fated : (s : State S (Mark A)) (cs : List (Call (Mark A))) → All Quiet cs → Fated k d s → Fated k d (run s cs)

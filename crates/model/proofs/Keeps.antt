@@ -2,6 +2,7 @@
 use mathlib.Core.Path.{_≡_, refl, sym, _∙_}
 use mathlib.Core.Bool.{Bool, true, false, cond, true≢false}
 use mathlib.Core.List.{List, [], _∷_}
+use lib.Dec.{eqb}
 use Prim.Native.Nat.{ℕ, _-_, _<_}
 use native.Mathlib.Omega.{arith}
 use Rattle.settings.specs.declared.Settings.{Settings}
@@ -12,7 +13,7 @@ use Rattle.lists.proofs.Loops.{iterate-keeps}
 use Rattle.model.specs.Records.{State, level}
 use Rattle.model.specs.Merge.{release}
 use Rattle.model.specs.Steps.{Work, Write, put, delete, delete-range, begin, merge-state, merge-level, merge-all, displaced, enter-at, enter, set-points, wipe, act-deepest, crowded, make-room, full, write, buffer-due, due, pass-buffer, pass-level, pass, still-due}
-use Rattle.model.specs.Calls.{Op, written, flush, tick, Call, Outcome, bad-docket, bad-clock, timed, refused, prepared, out-of-slots, finish, step, run}
+use Rattle.model.specs.Calls.{Op, written, flush, tick, Call, Outcome, early-refusal, timed, refused, prepared, out-of-slots, finish, step, run}
 
 none-release : {X : Type 0} (xs ys : List X) → none (release xs ys) ≡ true → (none xs ≡ true) × (none ys ≡ true)
 none-release [] ys h = (refl, h)
@@ -126,10 +127,10 @@ module _ {S A : Type 0} (P : State S A → Type 0) (c : Call A) (k : Kept P c) w
   pub step-keeps : (s : State S A) → P s → P (step s c .state)
   unfolding step
   step-keeps s p =
-      cond-elim (λ (r : Outcome S A). P (r .state)) (bad-docket (c .op)) (refused 4 s) _ (λ g. p)
-      (λ g. cond-elim (λ (r : Outcome S A). P (r .state)) (bad-clock (c .clock) (s .clock)) (refused 5 s) _ (λ b. p)
-      (λ b. cond-elim (λ (r : Outcome S A). P (r .state)) (out-of-slots (c .clock) (c .op) s) (refused 7 (merge-all s .state)) _ (λ h. merge-all-kept s p)
-      (λ h. finish-kept s (prepared (c .clock) (c .op) s) (prepared-kept s p))))
+      cond-elim (λ (r : Outcome S A). P (r .state)) (eqb (early-refusal (s .clock) c) 0) _ (refused (early-refusal (s .clock) c) s)
+      (λ g. cond-elim (λ (r : Outcome S A). P (r .state)) (out-of-slots (c .clock) (c .op) s) (refused 7 (merge-all s .state)) _ (λ h. merge-all-kept s p)
+      (λ h. finish-kept s (prepared (c .clock) (c .op) s) (prepared-kept s p)))
+      (λ g. p)
 
 module _ {S A : Type 0} (P : State S A → Type 0) where
   pub run-keeps : (s : State S A) (cs : List (Call A)) → All (Kept P) cs → P s → P (run s cs)

@@ -11,7 +11,7 @@ use Rattle.model.specs.Records.{Entry, value, tombstone, Point, Level, S
 use Rattle.model.specs.Merge.{covered}
 use Rattle.model.specs.Steps.{write-covers, Work, Write, put, delete, delete-range, begin, pass, merge-all, still-due}
 use Rattle.model.specs.Lookup.{Found, absent, reads, find, lookup}
-use Rattle.model.specs.Calls.{Op, written, flush, tick, Call, Outcome, bad-docket, bad-clock, count-written, prepared, out-of-slots, refused, finish, step, run, answers}
+use Rattle.model.specs.Calls.{Op, written, flush, tick, Call, Outcome, bad-docket, early-refusal, count-written, prepared, out-of-slots, refused, finish, step, run, answers}
 use Rattle.model.specs.Erasure.{call-at, accepted, pass-merges, merges-before, merges-buffer, merged-in, before, merged-after, Erased}
 use Rattle.model.specs.Renaming.{map-entry, map-found, map-point, map-level, map-state, map-work, map-write, map-op, map-call, map-outcome}
 use Rattle.model.proofs.NaturalMerge.{covered-map, held-all-map}
@@ -63,8 +63,7 @@ module _ {S T A B : Type 0} (g : S → T) (f : A → B) where
   step-map s c =
       let t : ℕ = c .clock in
       let last : Outcome S A = finish t (c .op) s (prepared t (c .op) s) in
-      let third : Outcome S A = cond (out-of-slots t (c .op) s) (refused 7 (merge-all s .state)) last in
-      let second : Outcome S A = cond (bad-clock t (s .clock)) (refused 5 s) third in
+      let second : Outcome S A = cond (out-of-slots t (c .op) s) (refused 7 (merge-all s .state)) last in
       rw (
         bad-docket-map (c .op),
         out-of-slots-map t (c .op) s,
@@ -72,9 +71,8 @@ module _ {S T A B : Type 0} (g : S → T) (f : A → B) where
         prepared-map t (c .op) s,
         finish-map t (c .op) s (prepared t (c .op) s),
         ← (cond-ap (map-outcome g f) (out-of-slots t (c .op) s) (refused 7 (merge-all s .state)) last),
-        ← (cond-ap (map-outcome g f) (bad-clock t (s .clock)) (refused 5 s) third),
       )
-      (sym (cond-ap (map-outcome g f) (bad-docket (c .op)) (refused 4 s) second))
+      (sym (cond-ap (map-outcome g f) (eqb (early-refusal (s .clock) c) 0) second (refused (early-refusal (s .clock) c) s)))
 
   pub run-map : (s : State S A) (cs : List (Call A)) → run (map-state g f s) (map (map-call f) cs) ≡ map-state g f (run s cs)
   unfolding run

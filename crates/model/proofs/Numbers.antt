@@ -1,5 +1,5 @@
 -- The numbers of an accepted call: what purged adds up to, and how many merges there can be.
-use mathlib.Core.Path.{_≡_, refl, ap, _∙_}
+use mathlib.Core.Path.{_≡_, refl, sym, ap, _∙_}
 use mathlib.Core.Bool.{Bool, true, false, cond, false≢true}
 use mathlib.Core.List.{List, [], _∷_}
 use Prim.Native.Nat.{ℕ, suc, _+_, _-_, _≤_, _<_}
@@ -19,7 +19,7 @@ use Rattle.model.specs.Erasure.{accepted}
 use Rattle.model.proofs.Keeps.{Kept, merge-all-keeps, pass-keeps, prepared-kept, run-keeps, enter-settings, act-settings}
 use Rattle.model.proofs.Form.{Formed, formed-kept}
 use Rattle.model.proofs.Slots.{Whole, whole-kept}
-use Rattle.model.proofs.StepView.{worked, accepted-outcome, StepView, refused-4, refused-5, refused-7, passed, step-view}
+use Rattle.model.proofs.StepView.{worked, accepted-outcome, StepView, turned-away, refused-7, passed, step-view}
 
 module _ {S A : Type 0} where
   -- A merge or an action on level L takes no slot, and an entry takes one.
@@ -110,10 +110,9 @@ module _ {S A : Type 0} where
     where
       go : (r : Outcome S A) → StepView s c r → eqb (r .answer .refusal) 0 ≡ true
           → r .answer .purged + held-all (r .state .levels) ≡ held-all (s .levels) + count-written (c .op)
-      go r (refused-4 d) h = absurd (false≢true h)
-      go r (refused-5 d e) h = absurd (false≢true h)
-      go r (refused-7 d e g) h = absurd (false≢true h)
-      go r (passed d e g) h = omega (arith, held-most n s c f)
+      go r (turned-away e) h = absurd (false≢true (sym e ∙ h))
+      go r (refused-7 e g) h = absurd (false≢true h)
+      go r (passed e g) h = omega (arith, held-most n s c f)
 
   -- The most merges that a call allows: those that make room, the flush's own, and one a level in the pass.
   abbrev pub most-merges : ℕ → Op A → State S A → ℕ
@@ -188,9 +187,8 @@ module _ {S A : Type 0} where
   merges-most s c h = go (step s c) (step-view s c)
     where
       go : (r : Outcome S A) → StepView s c r → eqb (r .answer .refusal) 0 ≡ true → r .answer .merges ≤ most-merges (c .clock) (c .op) s
-      go r (refused-4 d) q = absurd (false≢true q)
-      go r (refused-5 d e) q = absurd (false≢true q)
-      go r (refused-7 d e g) q = absurd (false≢true q)
-      go r (passed d e g) q =
+      go r (turned-away e) q = absurd (false≢true (sym e ∙ q))
+      go r (refused-7 e g) q = absurd (false≢true q)
+      go r (passed e g) q =
           let same = ap (λ (x : Settings). x .deepest) (prepared-settings s c h) in
           omega (arith, pass-merges-most (c .clock) (prepared (c .clock) (c .op) s) (rw same h), prepared-merges s c, same)

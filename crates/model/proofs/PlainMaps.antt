@@ -19,12 +19,12 @@ use Rattle.model.specs.Merge.{names, point-before}
 use Rattle.model.specs.Steps.{write-covers, put, delete, delete-range, merge-state, merge-all, no-slot}
 use Rattle.model.specs.Lookup.{absent, found, Row, is-found, find, lookup}
 use Rattle.model.specs.Live.{SlotsLive}
-use Rattle.model.specs.Calls.{Op, written, flush, tick, Call, Outcome, bad-clock, prepared, out-of-slots, step, run, answers, refusals}
+use Rattle.model.specs.Calls.{Op, written, flush, tick, Call, Outcome, early-refusal, prepared, out-of-slots, step, run, answers, refusals}
 use Rattle.model.specs.PlainMap.{PlainMap, get, has-key, changed, map-full, map-refusal, map-step, map-run, map-refusals, no-rows}
 use Rattle.model.proofs.Keeps.{merge-all-keeps, prepared-kept}
 use Rattle.model.proofs.Form.{Formed, formed-kept}
 use Rattle.model.proofs.Slots.{Whole, step-whole, fresh-whole}
-use Rattle.model.proofs.StepView.{worked, accepted-outcome, StepView, refused-4, refused-5, refused-7, passed, step-view}
+use Rattle.model.proofs.StepView.{worked, accepted-outcome, StepView, turned-away, refused-7, passed, step-view}
 use Rattle.model.proofs.Lookups.{lookup-empty}
 use Rattle.model.proofs.LookupSteps.{after-op, after-op-same, merge-all-lookup, pass-lookup, prepared-lookup}
 use Rattle.model.proofs.Full.{puts-found, found-named, names-own, Bottom, bottom, live-slots, full-live, live-full}
@@ -199,15 +199,14 @@ module _ {S A : Type 0} where
       full : map-full n (c .op) (m .rows) ≡ out-of-slots (c .clock) (c .op) s
       full = op-full-alike n s m same (c .clock) (c .op)
 
-      late : bad-clock (c .clock) (m .clock) ≡ bad-clock (c .clock) (s .clock)
-      late = ap (bad-clock (c .clock)) (same .clocks)
+      early : early-refusal (m .clock) c ≡ early-refusal (s .clock) c
+      early = ap (λ t. early-refusal t c) (same .clocks)
 
       go : (r : Outcome S A) → StepView s c r → Whole n (r .state) → StepAlike n m c r
-      go r (refused-4 d) w = record { refusal = rw d; alike = rw d same }
-      go r (refused-5 d e) w = record { refusal = rw (d, late, e); alike = rw (d, late, e) same }
-      go r (refused-7 d e g) w = record {
-        refusal = rw (d, late, e, full, g);
-        alike = rw (d, late, e, full, g)
+      go r (turned-away e) w = record { refusal = rw (early, e); alike = rw (early, e, e) same }
+      go r (refused-7 e g) w = record {
+        refusal = rw (early, e, full, g);
+        alike = rw (early, e, full, g)
             (record {
               whole = w;
               clocks = same .clocks ∙ sym (merge-all-clock s (omega (arith, f .deep)));
@@ -215,9 +214,9 @@ module _ {S A : Type 0} where
               distinct = same .distinct;
             });
       }
-      go r (passed d e g) w = record {
-        refusal = rw (d, late, e, full, g);
-        alike = rw (d, late, e, full, g)
+      go r (passed e g) w = record {
+        refusal = rw (early, e, full, g);
+        alike = rw (early, e, full, g)
             (record {
               whole = w;
               clocks = refl;

@@ -51,6 +51,11 @@ module _ {A : Type 0} where
 abbrev pub bad-clock : ℕ → ℕ → Bool
 bad-clock t last = eqb t 0 || ltb t last
 
+module _ {A : Type 0} where
+  -- What turns a call away at once, by the last accepted clock: the docket, then the clock; 0 where nothing does.
+  abbrev pub early-refusal : ℕ → Call A → ℕ
+  early-refusal last c = cond (bad-docket (c .op)) 4 (cond (bad-clock (c .clock) last) 5 0)
+
 module _ {S A : Type 0} where
   -- The call's clock becomes the last accepted one.
   abbrev pub timed : ℕ → State S A → State S A
@@ -83,17 +88,17 @@ module _ {S A : Type 0} where
   -- The refusal's number, "by where they are found": the docket, the clock, the free chain. Refusal 8 never comes.
   abbrev pub refusal-number : State S A → Call A → ℕ
   refusal-number s c =
-      cond (bad-docket (c .op)) 4
-      (cond (bad-clock (c .clock) (s .clock)) 5
-      (cond (out-of-slots (c .clock) (c .op) s) 7 0))
+      let early = early-refusal (s .clock) c in
+      cond (eqb early 0) (cond (out-of-slots (c .clock) (c .op) s) 7 0) early
 
   -- "The order is the table's". Under 7 "tables stay merged, clock as before".
   unfoldable pub step : State S A → Call A → Outcome S A
   step s c =
-      cond (bad-docket (c .op)) (refused 4 s)
-      (cond (bad-clock (c .clock) (s .clock)) (refused 5 s)
+      let early = early-refusal (s .clock) c in
+      cond (eqb early 0)
       (cond (out-of-slots (c .clock) (c .op) s) (refused 7 (merge-all s .state))
-      (finish (c .clock) (c .op) s (prepared (c .clock) (c .op) s))))
+      (finish (c .clock) (c .op) s (prepared (c .clock) (c .op) s)))
+      (refused early s)
 
   -- A list of timed calls, one after the other, refused ones too: the state that it leaves.
   unfoldable pub run : State S A → List (Call A) → State S A

@@ -7,7 +7,7 @@ use lib.Dec.{eqb}
 use lib.ListN.{getD, take, drop, set}
 use Rattle.model.specs.Records.{State}
 use Rattle.model.specs.Steps.{write-covers, Write, put, crowded, full, buffer-due}
-use Rattle.model.specs.Calls.{Op, written, flush, tick, Call, bad-docket, bad-clock, prepared, step, run}
+use Rattle.model.specs.Calls.{Op, written, flush, tick, Call, early-refusal, prepared, step, run}
 
 module _ {A : Type 0} where
   -- The call at a place of the list; past its end, one that is always refused.
@@ -36,7 +36,7 @@ module _ {S A : Type 0} where
   -- Level 0 is merged in the call.
   unfoldable pub merges-buffer : State S A → Call A → Bool
   merges-buffer s c =
-      not (bad-docket (c .op) || bad-clock (c .clock) (s .clock))
+      eqb (early-refusal (s .clock) c) 0
       && (merges-before (c .clock) (c .op) s || pass-merges s c)
 
   -- "or in any later call of the list"

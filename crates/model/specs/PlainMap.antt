@@ -7,7 +7,7 @@ use lib.ListN.{length}
 use Rattle.lists.specs.Lists.{any, reject}
 use Rattle.model.specs.Steps.{write-covers, put, delete, delete-range}
 use Rattle.model.specs.Lookup.{Found, absent, found, Row}
-use Rattle.model.specs.Calls.{Op, written, flush, tick, Call, bad-docket, bad-clock}
+use Rattle.model.specs.Calls.{Op, written, flush, tick, Call, early-refusal}
 
 -- The last accepted clock, and the live dockets' rows.
 pub record PlainMap (A : Type 0) : Type 0 where
@@ -42,9 +42,8 @@ module _ {A : Type 0} where
   -- Refusals 4, 5 and 7, in the table's order.
   unfoldable pub map-refusal : ℕ → PlainMap A → Call A → ℕ
   map-refusal slots m c =
-      cond (bad-docket (c .op)) 4
-      (cond (bad-clock (c .clock) (m .clock)) 5
-      (cond (map-full slots (c .op) (m .rows)) 7 0))
+      let early = early-refusal (m .clock) c in
+      cond (eqb early 0) (cond (map-full slots (c .op) (m .rows)) 7 0) early
 
   -- A refused call changes nothing.
   unfoldable pub map-step : ℕ → PlainMap A → Call A → PlainMap A

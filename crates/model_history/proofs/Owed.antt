@@ -17,7 +17,7 @@ use Rattle.lists.proofs.Bools.{cond-elim, by-cases}
 use Rattle.model.specs.Records.{Level, Point, State, empty, level, fresh, slotless}
 use Rattle.model.specs.Merge.{release, merged, joined}
 use Rattle.model.specs.Steps.{Work, Write, put, delete, delete-range, single, begin, merge-state, merge-level, merge-all, displaced, enter-at, enter, set-points, wipe, act-deepest, crowded, make-room, full, write, buffer-due, due, pass-buffer, pass-level, pass, still-due}
-use Rattle.model.specs.Calls.{Op, written, flush, tick, Call, Outcome, bad-docket, bad-clock, timed, prepared, out-of-slots, finish, step, run}
+use Rattle.model.specs.Calls.{Op, written, flush, tick, Call, Outcome, early-refusal, timed, prepared, out-of-slots, finish, step, run}
 use Rattle.model.specs.Renaming.{map-level}
 use Rattle.model.proofs.Keeps.{has-room}
 use Rattle.model.proofs.NaturalCalls.{run-slotless}
@@ -179,14 +179,12 @@ module _ {S A : Type 0} (deepest : ℕ) where
 
     stepping : (s : State S A) (c : Call A) (h : ℕ → List ℕ) → Owes deepest s h → Owes deepest (step s c .state) (came-after h (events s c))
     unfolding step events came-after
-    stepping s c h o = by-cases (bad-docket (c .op))
-        (λ p. rw p o)
-        (λ p. by-cases (bad-clock (c .clock) (s .clock))
-        (λ q. rw (p, q) o)
+    stepping s c h o = by-cases (eqb (early-refusal (s .clock) c) 0)
         (λ q. by-cases (out-of-slots (c .clock) (c .op) s)
-        (λ r. rw (p, q, r) (merging-all s h o))
-        (λ r. rw (p, q, r, came-append h (prepared-events (c .clock) (c .op) s) (pass-events (c .clock) (prepared (c .clock) (c .op) s)))
-        (finishing (c .clock) (c .op) s (prepared (c .clock) (c .op) s) _ (passing-all (c .clock) (prepared (c .clock) (c .op) s) _ (preparing (c .clock) (c .op) s h o))))))
+        (λ r. rw (q, r) (merging-all s h o))
+        (λ r. rw (q, r, came-append h (prepared-events (c .clock) (c .op) s) (pass-events (c .clock) (prepared (c .clock) (c .op) s)))
+        (finishing (c .clock) (c .op) s (prepared (c .clock) (c .op) s) _ (passing-all (c .clock) (prepared (c .clock) (c .op) s) _ (preparing (c .clock) (c .op) s h o)))))
+        (λ q. rw q o)
 
     running : (s : State S A) (cs : List (Call A)) (h : ℕ → List ℕ) → Owes deepest s h → Owes deepest (run s cs) (came-after h (history s cs))
     unfolding run history came-after

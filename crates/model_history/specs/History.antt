@@ -7,7 +7,7 @@ use lib.Dec.{eqb}
 use Rattle.model.specs.Records.{State, level}
 use Rattle.model.specs.Merge.{earlier}
 use Rattle.model.specs.Steps.{Work, Write, put, delete, delete-range, crowded, full, buffer-due, due, pass-buffer, pass-level}
-use Rattle.model.specs.Calls.{Op, written, flush, tick, Call, bad-docket, bad-clock, out-of-slots, prepared, step}
+use Rattle.model.specs.Calls.{Op, written, flush, tick, Call, early-refusal, out-of-slots, prepared, step}
 
 -- A write enters the buffer at a clock, or a level is merged into the next.
 pub data Event (A : Type 0) : Type 0 where
@@ -63,12 +63,13 @@ module _ {S A : Type 0} where
   abbrev pub pass-events : ℕ → Work S A → List (Event A)
   pass-events t w = merges-if (buffer-due (w .state)) 0 ++ passing t (w .state .settings .deepest - 1) 1 (pass-buffer w)
 
-  -- What happens in a call: nothing where it is refused 4 or 5, the merging alone where it is refused 7.
+  -- What happens in a call: nothing where it is turned away at once, the merging alone where it is refused 7.
   unfoldable pub events : State S A → Call A → List (Event A)
   events s c =
-      cond (bad-docket (c .op) || bad-clock (c .clock) (s .clock)) []
+      cond (eqb (early-refusal (s .clock) c) 0)
       (cond (out-of-slots (c .clock) (c .op) s) (merges-from (s .settings .deepest) 0)
       (prepared-events (c .clock) (c .op) s ++ pass-events (c .clock) (prepared (c .clock) (c .op) s)))
+      []
 
   -- In a list of calls.
   unfoldable pub history : State S A → List (Call A) → List (Event A)

@@ -21,7 +21,7 @@ use Rattle.model.specs.Merge.{point-slots, range-slots, release, merged, settle
 use Rattle.model.specs.Steps.{Write, put, delete, delete-range, single, unplaced, merge-state, merge-all, displaced, enter-at, enter, overwrite, set-points, wipe, act-deepest}
 use Rattle.model.specs.Calls.{Call, Outcome, written, bad-docket, bad-clock, timed, step, run}
 use Rattle.model.proofs.Keeps.{Kept, merge-all-keeps, step-keeps}
-use Rattle.model.proofs.StepView.{StepView, refused-4, refused-5, refused-7, passed, step-view, accepted-clock}
+use Rattle.model.proofs.StepView.{let-in-docket, let-in-time, StepView, turned-away, refused-7, passed, step-view, accepted-clock}
 use Rattle.model.proofs.Weights.{weigh-level, weight, merge-weight, enter-weight, act-weight}
 use Rattle.tables.specs.Sound.{every-slot-once}
 use Rattle.tables.specs.Formed.{LevelFormed, levels-slots, Formed}
@@ -226,12 +226,12 @@ pub step-formed : (n : ℕ) (p : State ℕ ℕ) (c : Call ℕ) → Formed n p �
 step-formed n p c f = go (step p c) refl (step-view p c)
   where
     go : (r : Outcome ℕ ℕ) → step p c ≡ r → StepView p c r → Formed n (r .state)
-    go r e (refused-4 d) = f
-    go r e (refused-5 d b) = f
-    go r e (refused-7 d b o) = merge-all-formed n p f
-    go r e (passed d b o) =
+    go r e (turned-away a) = f
+    go r e (refused-7 a o) = merge-all-formed n p f
+    go r e (passed a o) =
+        let b = let-in-time (p .clock) c a in
         at-formed n (c .clock) p (r .state) f
-        (rw e at (step-keeps (At (c .clock) p) c (at-kept p c (timed-from-1 b) d) p (formed-at n (c .clock) p (not-earlier b) f)))
+        (rw e at (step-keeps (At (c .clock) p) c (at-kept p c (timed-from-1 b) (let-in-docket (p .clock) c a)) p (formed-at n (c .clock) p (not-earlier b) f)))
         (accepted-clock p c)
       where
         timed-from-1 : bad-clock (c .clock) (p .clock) ≡ false → 1 ≤ c .clock
