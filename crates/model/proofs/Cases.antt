@@ -8,10 +8,10 @@ use Rattle.lists.specs.Lists.{any, select, sum, merge, iterate}
 use Rattle.settings.specs.Limits.{power, capacity, limit}
 use Rattle.settings.proofs.Limits.{limit-last}
 use Rattle.model.specs.Records.{Entry, value, tombstone, Point, State, fresh}
-use Rattle.model.specs.Coverage.{covers}
+use Rattle.model.specs.Coverage.{over, covers}
 use Rattle.model.specs.Merge.{later, merged, settled, joined, freed}
 use Rattle.model.specs.Steps.{delete, delete-range, single, merge-state, merge-level, merge-all, enter-at, enter, set-points, wipe, act-deepest, crowded, make-room, full, write, no-slot, buffer-due, due, pass-buffer, pass-level, pass, still-due}
-use Rattle.model.specs.Lookup.{live-from, scan, find, lookup}
+use Rattle.model.specs.Lookup.{live-from, scan, latest, find, lookup-from}
 use Rattle.model.specs.Live.{all-points}
 use Rattle.model.specs.Calls.{prepared, finish, step, run, answers}
 use Rattle.model.specs.Erasure.{accepted, pass-merges, merges-buffer, merged-in}
@@ -19,8 +19,8 @@ use Rattle.model.specs.Cases.{settings, CaseTable, NearMissTable}
 use Rattle.model.specs.Ways.{WayTable}
 
 pub cases : CaseTable
-unfolding any select covers sum merge iterate power capacity limit fresh later merged settled joined freed single merge-state merge-level merge-all enter-at
-    enter set-points wipe act-deepest crowded make-room full write no-slot buffer-due due pass-buffer pass-level pass still-due find lookup prepared finish
+unfolding any select over covers sum merge iterate power capacity limit fresh later merged settled joined freed single merge-state merge-level merge-all enter-at
+    enter set-points wipe act-deepest crowded make-room full write no-slot buffer-due due pass-buffer pass-level pass still-due latest find lookup-from prepared finish
     step run answers
 cases = record {
   limits-3-2-9 = refl;
@@ -33,14 +33,17 @@ cases = record {
   tick-4-does-not = refl;
   widest-range = refl;
   crossed-range = refl;
+  dates = refl;
+  same-clock = refl;
+  up-to-the-date = refl;
   script = refl;
   first-lookup = refl;
   second-lookup = refl;
 }
 
 pub near-misses : NearMissTable
-unfolding any select covers sum merge iterate power capacity limit fresh later merged settled joined freed single merge-state merge-level merge-all enter-at
-    enter set-points wipe act-deepest crowded make-room full write no-slot buffer-due due pass-buffer pass-level pass still-due live-from scan find lookup
+unfolding any select over covers sum merge iterate power capacity limit fresh later merged settled joined freed single merge-state merge-level merge-all enter-at
+    enter set-points wipe act-deepest crowded make-room full write no-slot buffer-due due pass-buffer pass-level pass still-due live-from scan latest find lookup-from
     prepared finish step run answers
 near-misses = record {
   owed-outlives-the-delete = refl;
@@ -73,7 +76,7 @@ apart : {s r : State (Unit {0}) ℕ} → ((tallies s ≡ tallies r) → ⊥) →
 apart h e = h (ap tallies e)
 
 pub ways : WayTable
-unfolding tallies any select covers sum merge iterate power capacity limit fresh later merged settled joined freed single merge-state merge-level merge-all
+unfolding tallies any select over covers sum merge iterate power capacity limit fresh later merged settled joined freed single merge-state merge-level merge-all
     enter-at enter set-points wipe act-deepest crowded make-room full write no-slot buffer-due due pass-buffer pass-level pass still-due prepared finish step
     run accepted pass-merges merges-buffer merged-in
 ways = record {
@@ -83,7 +86,7 @@ ways = record {
   later-room = λ v. record { is-put = refl; after = lit< tt; write = delete 5; is-write = refl; covers = refl; accept = refl; fate = refl; term = lit≤ tt };
   later-full = λ v. record { is-put = refl; after = lit< tt; write = delete 5; is-write = refl; covers = refl; accept = refl; fate = refl; term = lit≤ tt };
   acted = λ v. record { is-put = refl; after = lit< tt; write = delete 5; is-write = refl; covers = refl; accept = refl; fate = refl; term = lit≤ tt };
-  range = λ v. record { is-put = refl; after = lit< tt; write = delete-range 4 6; is-write = refl; covers = refl; accept = refl; fate = refl; term = lit≤ tt };
+  range = λ v. record { is-put = refl; after = lit< tt; write = delete-range 4 6 2; is-write = refl; covers = refl; accept = refl; fate = refl; term = lit≤ tt };
   refused-put = λ v. record { is-put = refl; after = lit< tt; write = delete 5; is-write = refl; covers = refl; accept = refl; fate = refl; term = lit≤ tt };
   full-put = λ v. record { is-put = refl; after = lit< tt; write = delete 5; is-write = refl; covers = refl; accept = refl; fate = refl; term = lit≤ tt };
   before-entry = apart (λ (h : 120 ≡ 121). omega arith);

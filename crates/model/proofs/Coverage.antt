@@ -4,34 +4,44 @@ use mathlib.Core.Bool.{true, false}
 use Prim.Native.Nat.{ℕ, _<_, _≤_}
 use native.Mathlib.Omega.{arith}
 use lib.Dec.{eqb, leb}
-use borrow.Author.Tests.{le-leb, lt-leb, eq-eqb, eqb-true}
+use borrow.Author.Tests.{le-leb, lt-leb, eq-eqb, eqb-true, leb-true}
 use Rattle.settings.proofs.Allowed.{within-bounds, within-true}
-use Rattle.lists.proofs.Bools.{and-false-right, bool-ext}
-use Rattle.model.specs.Coverage.{covers}
+use Rattle.lists.proofs.Bools.{and-left, and-right, and-false-right, bool-ext}
+use Rattle.model.specs.Coverage.{over, covers}
 
 module _ (lo hi k : ℕ) where
-  pub covers-inside : lo ≤ k → k ≤ hi → covers lo hi k ≡ true
-  unfolding covers
-  covers-inside low high = within-true lo k hi low high
+  pub over-inside : lo ≤ k → k ≤ hi → over lo hi k ≡ true
+  unfolding over
+  over-inside low high = within-true lo k hi low high
 
-  pub covers-before : k < lo → covers lo hi k ≡ false
-  unfolding covers
-  covers-before before = rw (lt-leb lo k before)
+  pub over-before : k < lo → over lo hi k ≡ false
+  unfolding over
+  over-before before = rw (lt-leb lo k before)
 
-  pub covers-from : lo ≤ k → covers lo hi k ≡ leb k hi
-  unfolding covers
-  covers-from low = rw (le-leb lo k low)
+  pub over-from : lo ≤ k → over lo hi k ≡ leb k hi
+  unfolding over
+  over-from low = rw (le-leb lo k low)
 
-  pub covers-past : hi < k → covers lo hi k ≡ false
-  unfolding covers
-  covers-past past = and-false-right (leb lo k) (leb k hi) (lt-leb k hi past)
+  pub over-past : hi < k → over lo hi k ≡ false
+  unfolding over
+  over-past past = and-false-right (leb lo k) (leb k hi) (lt-leb k hi past)
 
-  pub covers-bounds : covers lo hi k ≡ true → (lo ≤ k) × (k ≤ hi)
+  pub over-bounds : over lo hi k ≡ true → (lo ≤ k) × (k ≤ hi)
+  unfolding over
+  over-bounds h = within-bounds lo k hi h
+
+-- A range covers by docket and stamp.
+module _ (lo hi date k stamp : ℕ) where
+  pub covers-true : over lo hi k ≡ true → stamp ≤ date → covers lo hi date k stamp ≡ true
   unfolding covers
-  covers-bounds h = within-bounds lo k hi h
+  covers-true is upto = rw (is, le-leb stamp date upto)
+
+  pub covers-parts : covers lo hi date k stamp ≡ true → (over lo hi k ≡ true) × (stamp ≤ date)
+  unfolding covers
+  covers-parts h = (and-left (over lo hi k) (leb stamp date) h, leb-true stamp date (and-right (over lo hi k) (leb stamp date) h))
 
 -- From a docket to itself is that docket alone.
-pub covers-one : (n k : ℕ) → covers n n k ≡ eqb n k
-covers-one n k = bool-ext (covers n n k) (eqb n k)
-    (λ h. let b = covers-bounds n n k h in eq-eqb n k (omega arith))
-    (λ h. let e = eqb-true n k h in covers-inside n n k (omega arith) (omega arith))
+pub over-one : (n k : ℕ) → over n n k ≡ eqb n k
+over-one n k = bool-ext (over n n k) (eqb n k)
+    (λ h. let b = over-bounds n n k h in eq-eqb n k (omega arith))
+    (λ h. let e = eqb-true n k h in over-inside n n k (omega arith) (omega arith))

@@ -17,7 +17,7 @@ use Rattle.model.specs.Merge.{merged, settled}
 use Rattle.model.specs.Steps.{write-covers, Work, Write, put, delete, delete-range, single, unplaced, merge-all, crowded, make-room, full, write}
 use Rattle.model.specs.Calls.{written, Call, prepared, step, run}
 use Rattle.model.specs.Erasure.{accepted, pass-merges, merged-in}
-use Rattle.model.proofs.Coverage.{covers-one}
+use Rattle.model.proofs.Coverage.{over-one}
 use Rattle.model.proofs.Keeps.{Kept, merge-all-keeps, pass-keeps, has-room}
 use Rattle.model.proofs.StepView.{worked, accepted-outcome, let-in-time, Accepted, accepted-ends}
 use Rattle.model.proofs.Deepest.{only-set, Drained, merge-all-drained}
@@ -32,27 +32,27 @@ module _ {A : Type 0} where
   delete-quiet : (k : ℕ) (w : Write (Mark A)) → write-covers w k ≡ true → QuietWrite w
   delete-quiet k (put n m) h = absurd (false≢true h)
   delete-quiet k (delete n) h = tt
-  delete-quiet k (delete-range lo hi) h = tt
+  delete-quiet k (delete-range lo hi date) h = tt
 
 module _ {S A : Type 0} where
   reaches-single : (x : S) (t : ℕ) (k : ℕ) (w : Write (Mark A)) → write-covers w k ≡ true → reaches (single x t w) k ≡ true
   unfolding single any
   reaches-single x t k (put n m) h = absurd (false≢true h)
-  reaches-single x t k (delete n) h = rw (sym (covers-one n k) ∙ h)
-  reaches-single x t k (delete-range lo hi) h = rw h
+  reaches-single x t k (delete n) h = rw (sym (over-one n k) ∙ h)
+  reaches-single x t k (delete-range lo hi date) h = rw h
 
 module _ {S A : Type 0} where
   single-front : (x : S) (t : ℕ) (k : ℕ) (w : Write (Mark A)) → 0 < t → write-covers w k ≡ true → Front k t (single x t w)
   unfolding single
   single-front x t k (put n m) p h = absurd (false≢true h)
   single-front x t k (delete n) p h = record { clean = (refl, tt); reach = reaches-single x t k (delete n) h; owes = (p, omega arith) }
-  single-front x t k (delete-range lo hi) p h = record { clean = tt; reach = reaches-single x t k (delete-range lo hi) h; owes = (p, omega arith) }
+  single-front x t k (delete-range lo hi date) p h = record { clean = tt; reach = reaches-single x t k (delete-range lo hi date) h; owes = (p, omega arith) }
 
   -- On level L it wipes every mark of its docket.
   acted-erases : (t k : ℕ) (w : Write (Mark A)) (l : Level S (Mark A)) → write-covers w k ≡ true → KeyedLevel k l → All Clean (acted t w (l .points))
   acted-erases t k (put n m) l h a = absurd (false≢true h)
   acted-erases t k (delete n) l h a = staying-clean k (unplaced t (delete n)) (l .points) (reaches-single {S = Unit {0}} tt t k (delete n) h) a
-  acted-erases t k (delete-range lo hi) l h a = staying-clean k (unplaced t (delete-range lo hi)) (l .points) (reaches-single {S = Unit {0}} tt t k (delete-range lo hi) h) a
+  acted-erases t k (delete-range lo hi date) l h a = staying-clean k (unplaced t (delete-range lo hi date)) (l .points) (reaches-single {S = Unit {0}} tt t k (delete-range lo hi date) h) a
 
   entered-front : (k d : ℕ) (w : Level S (Mark A)) (ls : List (Level S (Mark A))) → 0 < length ls → Front k d w → All (KeyedLevel k) ls → Sunk k d (set ls 0 (merged w (getD ls 0 empty)))
   entered-front k d w [] h f a = absurd (omega arith)

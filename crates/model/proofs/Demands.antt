@@ -108,7 +108,7 @@ module _ {S A : Type 0} (settings : Settings) (ok : allowed settings ≡ true) (
   unfolding no-slot
   delete-never-full t k = refl
 
-  pub delete-range-never-full : (t lo hi : ℕ) → out-of-slots t (written (delete-range lo hi)) (run (fresh settings slots) cs) ≡ false
+  pub delete-range-never-full : (t lo hi : ℕ) → out-of-slots t (written (delete-range lo hi date)) (run (fresh settings slots) cs) ≡ false
   unfolding no-slot
   delete-range-never-full t lo hi = refl
 

@@ -32,7 +32,7 @@ module _ {A : Type 0} where
   read-plain : (v : A) (op : Op A) → map-op (read v) (map-op plain op) ≡ op
   read-plain v (written (put k a)) = refl
   read-plain v (written (delete k)) = refl
-  read-plain v (written (delete-range lo hi)) = refl
+  read-plain v (written (delete-range lo hi date)) = refl
   read-plain v flush = refl
   read-plain v tick = refl
 
@@ -53,14 +53,14 @@ module _ {A : Type 0} where
   plain-quiet : (op : Op A) → QuietOp (map-op plain op)
   plain-quiet (written (put k a)) = refl
   plain-quiet (written (delete k)) = tt
-  plain-quiet (written (delete-range lo hi)) = tt
+  plain-quiet (written (delete-range lo hi date)) = tt
   plain-quiet flush = tt
   plain-quiet tick = tt
 
   plain-keyed : (k : ℕ) (op : Op A) → KeyedOp k (map-op plain op)
   plain-keyed k (written (put n a)) = λ h. absurd (false≢true h)
   plain-keyed k (written (delete n)) = tt
-  plain-keyed k (written (delete-range lo hi)) = tt
+  plain-keyed k (written (delete-range lo hi date)) = tt
   plain-keyed k flush = tt
   plain-keyed k tick = tt
 

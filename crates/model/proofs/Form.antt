@@ -40,7 +40,7 @@ module _ {S A : Type 0} where
   -- What stays of a lower level is not named by the upper one.
   pub staying-unnamed : (u : Level S A) (ps : List (Point S A)) → All (λ p. names (u .points) (p .key) ≡ false) (reject (point-goes u) ps)
   staying-unnamed u ps = all-selected _ (λ p. not (point-goes u p))
-      (λ p h. or-false-left (names (u .points) (p .key)) (covered (u .ranges) (p .key)) (not-true (point-goes u p) h)) ps
+      (λ p h. or-false-left (names (u .points) (p .key)) (covered (u .ranges) (p .key) (p .stamp)) (not-true (point-goes u p) h)) ps
 
   pub merged-ordered : (u l : Level S A) → Ordered u → Ordered l → Ordered (merged u l)
   unfolding merged
@@ -59,7 +59,7 @@ module _ {S A : Type 0} where
   unfolding single
   single-ordered x t (put k a) = (tt, tt)
   single-ordered x t (delete k) = (tt, tt)
-  single-ordered x t (delete-range lo hi) = tt
+  single-ordered x t (delete-range lo hi date) = tt
 
   pub overwrite-key : (k : ℕ) (a : A) (t : ℕ) (p : Point S A) → overwrite k a t p .key ≡ p .key
   overwrite-key k a t p = cond-elim (λ (q : Point S A). q .key ≡ p .key) (eqb (p .key) k) _ p (λ e. refl) (λ e. refl)
@@ -115,7 +115,7 @@ module _ {S A : Type 0} where
   unfolding act-deepest
   act-formed t (put k a) s f = set-points-formed (s .settings .deepest) _ s (s .free) (overwrite-ordered k a t (level (s .settings .deepest) s .points) (level-ordered (s .settings .deepest) s f)) f
   act-formed t (delete k) s f = wipe-formed (unplaced t (delete k)) (s .settings .deepest) s f
-  act-formed t (delete-range lo hi) s f = wipe-formed (unplaced t (delete-range lo hi)) (s .settings .deepest) s f
+  act-formed t (delete-range lo hi date) s f = wipe-formed (unplaced t (delete-range lo hi date)) (s .settings .deepest) s f
 
   pub formed-kept : (c : Call A) → Kept {S = S} Formed c
   formed-kept c = record {

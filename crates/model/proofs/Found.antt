@@ -1,26 +1,29 @@
 -- What holds of what every point says of its docket, and of absence, holds of what a lookup finds.
 use mathlib.Core.List.{List, [], _∷_}
-use Prim.Native.Nat.{ℕ}
-use lib.Dec.{eqb}
+use Prim.Native.Nat.{ℕ, max}
+use lib.Dec.{leb, eqb}
 use Rattle.lists.specs.All.{All}
 use Rattle.lists.proofs.Bools.{cond-elim}
 use Rattle.model.specs.Records.{Point, Level}
-use Rattle.model.specs.Merge.{covered}
-use Rattle.model.specs.Lookup.{Found, absent, reads, find, lookup}
+use Rattle.model.specs.Lookup.{Found, absent, reads, latest, judged, find, lookup-from, lookup}
 
 module _ {S A : Type 0} where
   abbrev pub Each : (Found A → Type 0) → List (Point S A) → Type 0
   Each P ps = All (λ p. P (reads (p .entry) (p .stamp))) ps
 
   module _ (P : Found A → Type 0) where
-    find-holds : (ps : List (Point S A)) (k : ℕ) (deeper : Found A) → Each P ps → P deeper → P (find ps k deeper)
+    find-holds : P absent → (date : ℕ) (ps : List (Point S A)) (k : ℕ) (deeper : Found A) → Each P ps → P deeper → P (find date ps k deeper)
     unfolding find
-    find-holds [] k deeper a d = d
-    find-holds (p ∷ ps) k deeper a d =
-        cond-elim P (eqb (p .key) k) (reads (p .entry) (p .stamp)) (find ps k deeper) (λ q. a .0) (λ q. find-holds ps k deeper (a .1) d)
+    find-holds none date [] k deeper a d = d
+    find-holds none date (p ∷ ps) k deeper a d =
+        cond-elim P (eqb (p .key) k) (judged date (p .entry) (p .stamp)) (find date ps k deeper)
+        (λ q. cond-elim P (leb (p .stamp) date) absent (reads (p .entry) (p .stamp)) (λ r. none) (λ r. a .0)) (λ q. find-holds none date ps k deeper (a .1) d)
+
+    pub lookup-from-holds : P absent → (date : ℕ) (ls : List (Level S A)) (k : ℕ) → All (λ l. Each P (l .points)) ls → P (lookup-from date ls k)
+    unfolding lookup-from
+    lookup-from-holds none date [] k a = none
+    lookup-from-holds none date (l ∷ ls) k a =
+        find-holds none date (l .points) k _ (a .0) (lookup-from-holds none (max date (latest (l .ranges) k)) ls k (a .1))
 
     pub lookup-holds : P absent → (ls : List (Level S A)) (k : ℕ) → All (λ l. Each P (l .points)) ls → P (lookup ls k)
-    unfolding lookup
-    lookup-holds none [] k a = none
-    lookup-holds none (l ∷ ls) k a =
-        find-holds (l .points) k _ (a .0) (cond-elim P (covered (l .ranges) k) absent (lookup ls k) (λ q. none) (λ q. lookup-holds none ls k (a .1)))
+    lookup-holds none ls k a = lookup-from-holds none 0 ls k a

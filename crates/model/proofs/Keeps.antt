@@ -33,7 +33,7 @@ module _ {S A : Type 0} where
   unfolding act-deepest set-points wipe
   act-settings t (put k a) s = refl
   act-settings t (delete k) s = refl
-  act-settings t (delete-range lo hi) s = refl
+  act-settings t (delete-range lo hi date) s = refl
 
   -- Where a write is not crowded, or the merges have freed a slot, its entry finds one.
   pub has-room : (t : ℕ) (w : Write A) (s : State S A) → full t w s ≡ false

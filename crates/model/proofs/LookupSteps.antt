@@ -16,7 +16,7 @@ use Rattle.model.specs.Merge.{covered, names, release, merged, settled}
 use Rattle.model.specs.Steps.{write-covers, Work, Write, put, delete, delete-range, single, unplaced, begin, merge-state, merge-level, merge-all, displaced, enter-at, enter, overwrite, set-points, wipe, act-deepest, crowded, make-room, full, write, no-slot, pass}
 use Rattle.model.specs.Lookup.{Found, absent, found, find, lookup}
 use Rattle.model.specs.Calls.{Op, written, flush, tick, prepared, out-of-slots}
-use Rattle.model.proofs.Coverage.{covers-one}
+use Rattle.model.proofs.Coverage.{over-one}
 use Rattle.model.proofs.Keeps.{merge-all-keeps, pass-keeps, has-room}
 use Rattle.model.proofs.Form.{Formed, formed-kept}
 use Rattle.model.proofs.Lookups.{find-select, lookup-merged, lookup-merge}
@@ -27,7 +27,7 @@ module _ {A : Type 0} where
   abbrev pub after : ℕ → Write A → (ℕ → Found A) → ℕ → Found A
   after t (put n a) look k = cond (eqb n k) (found a t) (look k)
   after t (delete n) look k = cond (write-covers {A = A} (delete n) k) absent (look k)
-  after t (delete-range lo hi) look k = cond (write-covers {A = A} (delete-range lo hi) k) absent (look k)
+  after t (delete-range lo hi date) look k = cond (write-covers {A = A} (delete-range lo hi date) k) absent (look k)
 
   abbrev pub after-op : ℕ → Op A → (ℕ → Found A) → ℕ → Found A
   after-op t (written w) look k = after t w look k
@@ -37,7 +37,7 @@ module _ {A : Type 0} where
   after-same : (t : ℕ) (w : Write A) (f g : ℕ → Found A) (k : ℕ) → f k ≡ g k → after t w f k ≡ after t w g k
   after-same t (put n a) f g k h = rw h
   after-same t (delete n) f g k h = rw h
-  after-same t (delete-range lo hi) f g k h = rw h
+  after-same t (delete-range lo hi date) f g k h = rw h
 
   pub after-op-same : (t : ℕ) (op : Op A) (f g : ℕ → Found A) (k : ℕ) → f k ≡ g k → after-op t op f k ≡ after-op t op g k
   after-op-same t (written w) f g k h = after-same t w f g k h
@@ -74,8 +74,8 @@ module _ {S A : Type 0} where
   lookup-single : (x : S) (t : ℕ) (w : Write A) (ls : List (Level S A)) (k : ℕ) → lookup (single x t w ∷ ls) k ≡ after t w (lookup ls) k
   unfolding lookup single find any
   lookup-single x t (put n a) ls k = refl
-  lookup-single x t (delete n) ls k = ap (λ b. cond b absent (lookup ls k)) (sym (covers-one n k))
-  lookup-single x t (delete-range lo hi) ls k = ap (λ b. cond b absent (lookup ls k)) (or-false (covers lo hi k))
+  lookup-single x t (delete n) ls k = ap (λ b. cond b absent (lookup ls k)) (sym (over-one n k))
+  lookup-single x t (delete-range lo hi date) ls k = ap (λ b. cond b absent (lookup ls k)) (or-false (covers lo hi k))
 
   enter-at-lookup : (t : ℕ) (w : Write A) (s : State S A) (free : List S) (k : ℕ) → none free ≡ false → 0 < length (s .levels)
       → lookup (enter-at t w s free .levels) k ≡ after t w (lookup (s .levels)) k
@@ -116,7 +116,7 @@ module _ {S A : Type 0} where
   abbrev Holds : Level S A → Write A → Type 0
   Holds l (put j a) = names (l .points) j ≡ true
   Holds l (delete j) = Unit {0}
-  Holds l (delete-range lo hi) = Unit {0}
+  Holds l (delete-range lo hi date) = Unit {0}
 
   -- Only level L holds records, and no ranges: what an action on it does.
   module _ (s : State S A) (n : ℕ) (l : Level S A) (deep : s .settings .deepest ≡ n) (levels : s .levels ≡ only n l) (bare : l .ranges ≡ []) where
@@ -147,12 +147,12 @@ module _ {S A : Type 0} where
         (by-cases (eqb j k)
         (λ e. find-overwritten j a t (l .points) k absent (eqb-true j k e) h ∙ rw e)
         (λ e. find-other j a t (l .points) k absent e ∙ rw e))
-    act-lookup t (delete j) k h = lookup-wipe (unplaced t (delete j)) k ∙ flip (eqb j k) (lookup (s .levels) k) ∙ ap (λ b. cond b absent (lookup (s .levels) k)) (sym (covers-one j k))
+    act-lookup t (delete j) k h = lookup-wipe (unplaced t (delete j)) k ∙ flip (eqb j k) (lookup (s .levels) k) ∙ ap (λ b. cond b absent (lookup (s .levels) k)) (sym (over-one j k))
       where
         flip : (b : Bool) (v : Found A) → cond (not (b || false || false)) v absent ≡ cond b absent v
         flip true v = refl
         flip false v = refl
-    act-lookup t (delete-range lo hi) k h = lookup-wipe (unplaced t (delete-range lo hi)) k ∙ flip (covers lo hi k) (lookup (s .levels) k)
+    act-lookup t (delete-range lo hi date) k h = lookup-wipe (unplaced t (delete-range lo hi date)) k ∙ flip (covers lo hi k) (lookup (s .levels) k)
       where
         flip : (b : Bool) (v : Found A) → cond (not (b || false)) v absent ≡ cond b absent v
         flip true v = refl
@@ -182,7 +182,7 @@ module _ {S A : Type 0} where
       ap (λ (l : Level S A). names (l .points) k) (sym (ap (λ ls. getD ls n empty) (d .levels) ∙ only-level n (settled (d .source))))
       ∙ not-false (names (level n (merge-all s .state) .points) k) (and-second-false (full t (put k a) s) _ h g)
   has-docket t (delete k) s f h g = tt
-  has-docket t (delete-range lo hi) s f h g = tt
+  has-docket t (delete-range lo hi date) s f h g = tt
 
   pub write-lookup : (t : ℕ) (w : Write A) (s : State S A) (k : ℕ) → Formed s → no-slot t w s ≡ false
       → lookup (write t w s .state .levels) k ≡ after t w (lookup (s .levels)) k

@@ -2,19 +2,20 @@
 use mathlib.Core.Path.{_≡_, refl, sym, ap, _∙_}
 use mathlib.Core.Bool.{Bool, true, false, cond, _&&_, _||_, not, false≢true, true≢false}
 use mathlib.Core.List.{List, [], _∷_, map}
-use Prim.Native.Nat.{ℕ, zero, suc, _<_}
+use Prim.Native.Nat.{ℕ, zero, suc, max, _<_}
 use native.Mathlib.Omega.{arith}
-use lib.Dec.{eqb}
+use lib.Dec.{leb, eqb}
 use lib.ListN.{length, getD, set}
-use borrow.Author.Tests.{eqb-true, ne-eqb, ltb-true, not-true, not-false}
+use borrow.Author.Tests.{eqb-true, eq-eqb, ne-eqb, ltb-true, leb-true, leb-false, not-true, not-false}
 use Rattle.lists.specs.Lists.{any, select, reject, merge}
 use Rattle.lists.specs.All.{All, Ascending}
-use Rattle.lists.proofs.Bools.{cond-ap, cond-elim, cond-same, by-cases, both-false, and-left, and-false-right, or-left, or-false-left, or-false-right, or-false-intro, or-right, or-second, and-right}
+use Rattle.lists.proofs.Bools.{cond-ap, cond-elim, cond-same, by-cases, both-false, bool-ext, and-left, and-intro, and-false-right, or-left, or-false-left, or-false-right, or-false-intro, or-right, or-second, and-right}
 use Rattle.lists.proofs.Tests.{any-map, any-same, any-select}
 use Rattle.lists.proofs.Merges.{any-merge}
 use Rattle.model.specs.Records.{Entry, value, tombstone, Point, Range, Level, is-put, empty}
-use Rattle.model.specs.Merge.{range-covers, covered, range-before, names, point-before, same-range, range-goes, point-goes, later, merged, settled, joined}
+use Rattle.model.specs.Merge.{range-covers, covered, range-before, names, point-before, same-range, range-goes, point-goes, united, later, merged, settled, joined}
 use Rattle.model.specs.Lookup.{Found, absent, reads, find, lookup}
+use Rattle.model.proofs.Coverage.{covers-true, covers-parts}
 use Rattle.model.proofs.Form.{Ordered, merged-ordered}
 
 module _ {S A : Type 0} where
@@ -88,53 +89,159 @@ module _ {S A : Type 0} where
       lower false g ih = ih g
 
 module _ {S : Type 0} where
-  range-covers-same : (q r : Range S) (k : ℕ) → same-range q r ≡ true → range-covers q k ≡ range-covers r k
-  range-covers-same q r k h =
-      let lo≡ : q .lo ≡ r .lo = eqb-true (q .lo) (r .lo) (and-left (eqb (q .lo) (r .lo)) (eqb (q .hi) (r .hi)) h) in
-      let hi≡ : q .hi ≡ r .hi = eqb-true (q .hi) (r .hi) (and-right (eqb (q .lo) (r .lo)) (eqb (q .hi) (r .hi)) h) in
-      rw (lo≡, hi≡)
+  same-ends : (q r : Range S) → same-range q r ≡ true → (q .lo ≡ r .lo) × (q .hi ≡ r .hi)
+  same-ends q r h = (
+    eqb-true (q .lo) (r .lo) (and-left (eqb (q .lo) (r .lo)) (eqb (q .hi) (r .hi)) h),
+    eqb-true (q .hi) (r .hi) (and-right (eqb (q .lo) (r .lo)) (eqb (q .hi) (r .hi)) h),
+  )
 
-  range-covers-later : (qs : List (Range S)) (r : Range S) (k : ℕ) → range-covers (later qs r) k ≡ range-covers r k
-  unfolding later
-  range-covers-later [] r k = refl
-  range-covers-later (q ∷ qs) r k = cond-elim (λ x. range-covers x k ≡ range-covers r k) (same-range q r) _ (later qs r) (λ g. refl) (λ g. range-covers-later qs r k)
+  same-turned : (q r : Range S) → same-range q r ≡ true → same-range r q ≡ true
+  same-turned q r h =
+      let ends = same-ends q r h in
+      and-intro (eqb (r .lo) (q .lo)) (eqb (r .hi) (q .hi)) (eq-eqb (r .lo) (q .lo) (sym (ends .0))) (eq-eqb (r .hi) (q .hi) (sym (ends .1)))
 
-  covered-later : (qs rs : List (Range S)) (k : ℕ) → covered (map (later qs) rs) k ≡ covered rs k
-  covered-later qs rs k = any-map (later qs) (λ r. range-covers r k) rs ∙ any-same _ _ (λ r. range-covers-later qs r k) rs
+  module _ (k t : ℕ) where
+    -- Of two alike the one left covers what either covers, and no more.
+    united-upper : (r q : Range S) → range-covers r k t ≡ true → range-covers (united r q) k t ≡ true
+    united-upper r q h =
+        let parts = covers-parts (r .lo) (r .hi) (r .date) k t h in
+        covers-true (r .lo) (r .hi) (max (r .date) (q .date)) k t (parts .0) (omega (arith, parts .1))
 
-  -- A range that is named covers only what is covered.
-  goes-covered : (rs : List (Range S)) (q : Range S) (k : ℕ) → range-goes rs q ≡ true → range-covers q k ≡ true → covered rs k ≡ true
-  unfolding any
-  goes-covered [] q k g c = absurd (false≢true g)
-  goes-covered (r ∷ rs) q k g c = by-cases (same-range r q)
-      (λ e. or-left (range-covers r k) (covered rs k) (range-covers-same r q k e ∙ c))
-      (λ e. or-right (range-covers r k) (covered rs k) (goes-covered rs q k (or-second (same-range r q) (range-goes rs q) g e) c))
+    united-lower : (r q : Range S) → same-range q r ≡ true → range-covers q k t ≡ true → range-covers (united r q) k t ≡ true
+    united-lower r q e h =
+        let parts = covers-parts (q .lo) (q .hi) (q .date) k t h in
+        let ends = same-ends q r e in
+        covers-true (r .lo) (r .hi) (max (r .date) (q .date)) k t (rw (ends .0, ends .1) at (parts .0)) (omega (arith, parts .1))
 
-  covered-staying : (rs qs : List (Range S)) (k : ℕ) → covered rs k || covered (reject (range-goes rs) qs) k ≡ covered rs k || covered qs k
-  unfolding any select
-  covered-staying rs [] k = refl
-  covered-staying rs (q ∷ qs) k =
-      cond-elim (λ l. covered rs k || covered l k ≡ covered rs k || covered (q ∷ qs) k) (not (range-goes rs q)) (q ∷ reject (range-goes rs) qs) (reject (range-goes rs) qs)
-      (λ g. kept (covered rs k) (range-covers q k) _ _ (covered-staying rs qs k))
-      (λ g. dropped (covered rs k) (range-covers q k) _ _ (goes-covered rs q k (not-false (range-goes rs q) g)) (covered-staying rs qs k))
-    where
-      kept : (a c x y : Bool) → a || x ≡ a || y → a || (c || x) ≡ a || (c || y)
-      kept true c x y h = refl
-      kept false true x y h = refl
-      kept false false x y h = h
+    united-back : (r q : Range S) → same-range q r ≡ true → range-covers (united r q) k t ≡ true → range-covers r k t || range-covers q k t ≡ true
+    united-back r q e h =
+        let parts = covers-parts (r .lo) (r .hi) (max (r .date) (q .date)) k t h in
+        let ends = same-ends q r e in
+        by-cases (leb t (r .date))
+        (λ y. or-left (range-covers r k t) (range-covers q k t) (covers-true (r .lo) (r .hi) (r .date) k t (parts .0) (leb-true t (r .date) y)))
+        (λ n. or-right (range-covers r k t) (range-covers q k t)
+        (covers-true (q .lo) (q .hi) (q .date) k t (rw (ends .0, ends .1) (parts .0)) (omega (arith, parts .1, leb-false t (r .date) n))))
 
-      dropped : (a c x y : Bool) → (c ≡ true → a ≡ true) → a || x ≡ a || y → a || x ≡ a || (c || y)
-      dropped true c x y i h = refl
-      dropped false true x y i h = absurd (false≢true (i refl))
-      dropped false false x y i h = h
+    -- Seen beside what lies below, a range covers what it covered.
+    later-upper : (qs : List (Range S)) (r : Range S) → range-covers r k t ≡ true → range-covers (later qs r) k t ≡ true
+    unfolding later
+    later-upper [] r h = h
+    later-upper (q ∷ qs) r h =
+        later-upper qs (cond (same-range q r) (united r q) r)
+        (cond-elim (λ x. range-covers x k t ≡ true) (same-range q r) (united r q) r (λ e. united-upper r q h) (λ e. h))
+
+    -- And what those alike cover.
+    abbrev alike-covers : Range S → Range S → Bool
+    alike-covers r q = same-range q r && range-covers q k t
+
+    later-lower : (qs : List (Range S)) (r : Range S) → any (alike-covers r) qs ≡ true → range-covers (later qs r) k t ≡ true
+    unfolding later any
+    later-lower [] r h = absurd (false≢true h)
+    later-lower (q ∷ qs) r h = by-cases (same-range q r)
+        (λ e. by-cases (range-covers q k t)
+        (λ c. rw (later, e) (later-upper qs (united r q) (united-lower r q e c)))
+        (λ c. rw (later, e) (later-lower qs (united r q) (rw (e, c) at h))))
+        (λ e. rw (later, e) (later-lower qs r (rw e at h)))
+
+    -- It covers no more than these.
+    later-back : (qs : List (Range S)) (r : Range S) → range-covers (later qs r) k t ≡ true → range-covers r k t || covered qs k t ≡ true
+    unfolding later any
+    later-back [] r h = or-left (range-covers r k t) false h
+    later-back (q ∷ qs) r h = by-cases (same-range q r)
+        (λ e. alike (range-covers (united r q) k t) refl e (later-back qs (united r q) (rw (later, e) at h)))
+        (λ e. other (range-covers r k t) (range-covers q k t) (covered qs k t) (later-back qs r (rw (later, e) at h)))
+      where
+        other : (a b c : Bool) → a || c ≡ true → a || (b || c) ≡ true
+        other true b c i = refl
+        other false true c i = refl
+        other false false c i = i
+
+        alike : (b : Bool) → range-covers (united r q) k t ≡ b → same-range q r ≡ true → b || covered qs k t ≡ true → range-covers r k t || (range-covers q k t || covered qs k t) ≡ true
+        alike true is e i = or-first (range-covers r k t) (range-covers q k t) (covered qs k t) (united-back r q e is)
+          where
+            or-first : (a b c : Bool) → a || b ≡ true → a || (b || c) ≡ true
+            or-first true b c i = refl
+            or-first false true c i = refl
+            or-first false false c i = absurd (false≢true i)
+        alike false is e i = other (range-covers r k t) (range-covers q k t) (covered qs k t) (or-right (range-covers r k t) (covered qs k t) i)
+
+    covered-later : (qs rs : List (Range S)) → covered rs k t ≡ true → covered (map (later qs) rs) k t ≡ true
+    unfolding any
+    covered-later qs [] h = absurd (false≢true h)
+    covered-later qs (r ∷ rs) h = by-cases (range-covers r k t)
+        (λ c. or-left (range-covers (later qs r) k t) (covered (map (later qs) rs) k t) (later-upper qs r c))
+        (λ c. or-right (range-covers (later qs r) k t) (covered (map (later qs) rs) k t) (covered-later qs rs (or-second (range-covers r k t) (covered rs k t) h c)))
+
+    covered-later-back : (qs rs : List (Range S)) → covered (map (later qs) rs) k t ≡ true → covered rs k t || covered qs k t ≡ true
+    unfolding any
+    covered-later-back qs [] h = absurd (false≢true h)
+    covered-later-back qs (r ∷ rs) h = by-cases (range-covers (later qs r) k t)
+        (λ c. first (range-covers r k t) (covered rs k t) (covered qs k t) (later-back qs r c))
+        (λ c. rest (range-covers r k t) (covered rs k t) (covered qs k t)
+        (covered-later-back qs rs (or-second (range-covers (later qs r) k t) (covered (map (later qs) rs) k t) h c)))
+      where
+        first : (a b c : Bool) → a || c ≡ true → (a || b) || c ≡ true
+        first true b c i = refl
+        first false true c i = refl
+        first false false c i = i
+
+        rest : (a b c : Bool) → b || c ≡ true → (a || b) || c ≡ true
+        rest true b c i = refl
+        rest false b c i = i
+
+    -- A range below that goes is alike one above, which then covers for it.
+    goes-covers : (all rs : List (Range S)) (q : Range S) → range-goes rs q ≡ true → ((r : Range S) → same-range q r ≡ true → any (alike-covers r) all ≡ true)
+        → covered (map (later all) rs) k t ≡ true
+    unfolding any
+    goes-covers all [] q g h = absurd (false≢true g)
+    goes-covers all (r ∷ rs) q g h = by-cases (same-range r q)
+        (λ e. or-left (range-covers (later all r) k t) (covered (map (later all) rs) k t) (later-lower all r (h r (same-turned r q e))))
+        (λ e. or-right (range-covers (later all r) k t) (covered (map (later all) rs) k t)
+        (goes-covers all rs q (or-second (same-range r q) (range-goes rs q) g e) h))
+
+    covered-below : (all rs qs : List (Range S)) → ((r : Range S) → any (alike-covers r) qs ≡ true → any (alike-covers r) all ≡ true)
+        → covered qs k t ≡ true → covered (map (later all) rs) k t || covered (reject (range-goes rs) qs) k t ≡ true
+    unfolding any select
+    covered-below all rs [] h c = absurd (false≢true c)
+    covered-below all rs (q ∷ qs) h c = by-cases (range-goes rs q)
+        (λ g. rw g (by-cases (range-covers q k t)
+        (λ y. or-left (covered (map (later all) rs) k t) _ (goes-covers all rs q g (λ r e. h r (rw (e, y)))))
+        (λ n. covered-below all rs qs deeper (or-second (range-covers q k t) (covered qs k t) c n))))
+        (λ g. rw g (kept (range-covers q k t) refl (λ n. covered-below all rs qs deeper (or-second (range-covers q k t) (covered qs k t) c n))))
+      where
+        deeper : (r : Range S) → any (alike-covers r) qs ≡ true → any (alike-covers r) all ≡ true
+        deeper r i = h r (or-right (alike-covers r q) (any (alike-covers r) qs) i)
+
+        kept : (b : Bool) → range-covers q k t ≡ b → (range-covers q k t ≡ false → covered (map (later all) rs) k t || covered (reject (range-goes rs) qs) k t ≡ true)
+            → covered (map (later all) rs) k t || (b || covered (reject (range-goes rs) qs) k t) ≡ true
+        kept true y i = or-right (covered (map (later all) rs) k t) true refl
+        kept false n i = i n
+
+    covered-staying : (f : Range S → Bool) (qs : List (Range S)) → covered (reject f qs) k t ≡ true → covered qs k t ≡ true
+    unfolding any select
+    covered-staying f [] h = h
+    covered-staying f (q ∷ qs) h = by-cases (f q)
+        (λ g. or-right (range-covers q k t) (covered qs k t) (covered-staying f qs (rw g at h)))
+        (λ g. by-cases (range-covers q k t)
+        (λ y. or-left (range-covers q k t) (covered qs k t) y)
+        (λ n. or-right (range-covers q k t) (covered qs k t) (covered-staying f qs (rw (g, n) at h))))
 
 module _ {S A : Type 0} where
-  pub covered-merged : (u l : Level S A) (k : ℕ) → covered (merged u l .ranges) k ≡ covered (u .ranges) k || covered (l .ranges) k
+  -- A merge covers what either level covers.
+  pub covered-merged : (u l : Level S A) (k t : ℕ) → covered (merged u l .ranges) k t ≡ covered (u .ranges) k t || covered (l .ranges) k t
   unfolding merged
-  covered-merged u l k =
-      any-merge range-before (λ r. range-covers r k) (map (later (l .ranges)) (u .ranges)) (reject (range-goes (u .ranges)) (l .ranges))
-      ∙ rw (covered-later (l .ranges) (u .ranges) k) (covered-staying (u .ranges) (l .ranges) k)
+  covered-merged u l k t =
+      any-merge range-before (λ r. range-covers r k t) (map (later (l .ranges)) (u .ranges)) (reject (range-goes (u .ranges)) (l .ranges))
+      ∙ bool-ext (covered (map (later (l .ranges)) (u .ranges)) k t || covered (reject (range-goes (u .ranges)) (l .ranges)) k t)
+      (covered (u .ranges) k t || covered (l .ranges) k t)
+      (λ h. by-cases (covered (map (later (l .ranges)) (u .ranges)) k t)
+      (λ y. covered-later-back k t (l .ranges) (u .ranges) y)
+      (λ n. or-right (covered (u .ranges) k t) (covered (l .ranges) k t) (covered-staying k t (range-goes (u .ranges)) (l .ranges) (or-second (covered (map (later (l .ranges)) (u .ranges)) k t) _ h n))))
+      (λ h. by-cases (covered (u .ranges) k t)
+      (λ y. or-left (covered (map (later (l .ranges)) (u .ranges)) k t) _ (covered-later k t (l .ranges) (u .ranges) y))
+      (λ n. covered-below k t (l .ranges) (u .ranges) (l .ranges) (λ r i. i) (or-second (covered (u .ranges) k t) (covered (l .ranges) k t) h n)))
 
+module _ {S A : Type 0} where
   unnamed-staying : (u : Level S A) (ps : List (Point S A)) (k : ℕ) → names (u .points) k ≡ true → names (reject (point-goes u) ps) k ≡ false
   unnamed-staying u ps k h = any-select (λ p. not (point-goes u p)) (λ p. eqb (p .key) k)
       (λ p g. by-cases (eqb (p .key) k)

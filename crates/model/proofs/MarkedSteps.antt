@@ -26,12 +26,12 @@ module _ {A : Type 0} where
   abbrev pub QuietWrite : Write (Mark A) → Type 0
   QuietWrite (put n m) = is-marked (value m) ≡ false
   QuietWrite (delete n) = Unit {0}
-  QuietWrite (delete-range lo hi) = Unit {0}
+  QuietWrite (delete-range lo hi date) = Unit {0}
 
   abbrev pub KeyedWrite : ℕ → Write (Mark A) → Type 0
   KeyedWrite k (put n m) = is-marked (value m) ≡ true → n ≡ k
   KeyedWrite k (delete n) = Unit {0}
-  KeyedWrite k (delete-range lo hi) = Unit {0}
+  KeyedWrite k (delete-range lo hi date) = Unit {0}
 
   abbrev pub QuietOp : Op (Mark A) → Type 0
   QuietOp (written w) = QuietWrite w
@@ -52,26 +52,26 @@ module _ {A : Type 0} where
   pub quiet-keyed : (k : ℕ) (w : Write (Mark A)) → QuietWrite w → KeyedWrite k w
   quiet-keyed k (put n m) q = λ h. both-false h q
   quiet-keyed k (delete n) q = tt
-  quiet-keyed k (delete-range lo hi) q = tt
+  quiet-keyed k (delete-range lo hi date) q = tt
 
 module _ {S A : Type 0} where
   single-clean : (x : S) (t : ℕ) (w : Write (Mark A)) → QuietWrite w → CleanLevel (single x t w)
   unfolding single
   single-clean x t (put n m) q = (q, tt)
   single-clean x t (delete n) q = (refl, tt)
-  single-clean x t (delete-range lo hi) q = tt
+  single-clean x t (delete-range lo hi date) q = tt
 
   single-keyed : (k : ℕ) (x : S) (t : ℕ) (w : Write (Mark A)) → KeyedWrite k w → KeyedLevel k (single x t w)
   unfolding single
   single-keyed k x t (put n m) q = (q, tt)
   single-keyed k x t (delete n) q = ((λ e. absurd (false≢true e)), tt)
-  single-keyed k x t (delete-range lo hi) q = tt
+  single-keyed k x t (delete-range lo hi date) q = tt
 
   -- The points of level L after an action on it.
   abbrev pub acted : ℕ → Write (Mark A) → List (Point S (Mark A)) → List (Point S (Mark A))
   acted t (put n m) ps = map (overwrite n m t) ps
   acted t (delete n) ps = reject (point-goes (unplaced {A = Mark A} t (delete n))) ps
-  acted t (delete-range lo hi) ps = reject (point-goes (unplaced {A = Mark A} t (delete-range lo hi))) ps
+  acted t (delete-range lo hi date) ps = reject (point-goes (unplaced {A = Mark A} t (delete-range lo hi date))) ps
 
   pub act-levels : (t : ℕ) (w : Write (Mark A)) (s : State S (Mark A))
       → act-deepest t w s .levels ≡ set (s .levels) (s .settings .deepest)
@@ -79,7 +79,7 @@ module _ {S A : Type 0} where
   unfolding act-deepest set-points wipe
   act-levels t (put n m) s = refl
   act-levels t (delete n) s = refl
-  act-levels t (delete-range lo hi) s = refl
+  act-levels t (delete-range lo hi date) s = refl
 
   overwritten : (P : Point S (Mark A) → Type 0) (n : ℕ) (m : Mark A) (t : ℕ) (ps : List (Point S (Mark A)))
       → ((p : Point S (Mark A)) → eqb (p .key) n ≡ true → P (record { slot = p .slot; key = p .key; entry = value m; stamp = t })) → All P ps → All P (map (overwrite n m t) ps)
@@ -88,12 +88,12 @@ module _ {S A : Type 0} where
   acted-clean : (t : ℕ) (w : Write (Mark A)) (ps : List (Point S (Mark A))) → QuietWrite w → All Clean ps → All Clean (acted t w ps)
   acted-clean t (put n m) ps q a = overwritten Clean n m t ps (λ p e. q) a
   acted-clean t (delete n) ps q a = all-select Clean _ ps a
-  acted-clean t (delete-range lo hi) ps q a = all-select Clean _ ps a
+  acted-clean t (delete-range lo hi date) ps q a = all-select Clean _ ps a
 
   acted-keyed : (k t : ℕ) (w : Write (Mark A)) (ps : List (Point S (Mark A))) → KeyedWrite k w → All (Keyed k) ps → All (Keyed k) (acted t w ps)
   acted-keyed k t (put n m) ps q a = overwritten (Keyed k) n m t ps (λ p e h. eqb-true (p .key) n e ∙ q h) a
   acted-keyed k t (delete n) ps q a = all-select (Keyed k) _ ps a
-  acted-keyed k t (delete-range lo hi) ps q a = all-select (Keyed k) _ ps a
+  acted-keyed k t (delete-range lo hi date) ps q a = all-select (Keyed k) _ ps a
 
   pub fits : (i : ℕ) (s : State S (Mark A)) → Formed s → i < s .settings .deepest → Fits (eqb (suc i) (s .settings .deepest)) i (s .levels)
   fits i s f h = (omega (arith, f .size), last-only i s f)

@@ -2,19 +2,18 @@
 use mathlib.Core.Path.{_≡_, refl, sym, ap, _∙_}
 use mathlib.Core.Bool.{cond}
 use mathlib.Core.List.{List, [], _∷_, map}
-use Prim.Native.Nat.{ℕ, zero, suc}
-use lib.Dec.{eqb}
+use Prim.Native.Nat.{ℕ, zero, suc, max}
+use lib.Dec.{leb, eqb}
 use lib.ListN.{length, take, drop, List·getD-map, replicate}
 use Rattle.lists.proofs.Bools.{cond-ap}
 use Rattle.settings.specs.declared.Settings.{Settings}
-use Rattle.model.specs.Records.{Entry, value, tombstone, Point, Level, State, empty, fresh, slotless}
-use Rattle.model.specs.Merge.{covered}
+use Rattle.model.specs.Records.{Entry, value, tombstone, Point, Range, Level, State, empty, fresh, slotless}
 use Rattle.model.specs.Steps.{write-covers, Work, Write, put, delete, delete-range, begin, pass, merge-all, still-due}
-use Rattle.model.specs.Lookup.{Found, absent, reads, find, lookup}
-use Rattle.model.specs.Calls.{Op, written, flush, tick, Call, Outcome, bad-docket, early-refusal, count-written, prepared, out-of-slots, refused, finish, step, run, answers}
+use Rattle.model.specs.Lookup.{Found, absent, reads, latest, judged, find, lookup-from, lookup}
+use Rattle.model.specs.Calls.{Op, written, flush, tick, Call, Outcome, bad-docket, bad-date, early-refusal, count-written, prepared, out-of-slots, refused, finish, step, run, answers}
 use Rattle.model.specs.Erasure.{call-at, accepted, pass-merges, merges-before, merges-buffer, merged-in, before, merged-after, Erased}
-use Rattle.model.specs.Renaming.{map-entry, map-found, map-point, map-level, map-state, map-work, map-write, map-op, map-call, map-outcome}
-use Rattle.model.proofs.NaturalMerge.{covered-map, held-all-map}
+use Rattle.model.specs.Renaming.{map-entry, map-found, map-point, map-range, map-level, map-state, map-work, map-write, map-op, map-call, map-outcome}
+use Rattle.model.proofs.NaturalMerge.{held-all-map}
 use Rattle.model.proofs.NaturalSteps.{merge-level-map, merge-all-map, write-map, no-slot-map, pass-map, still-due-map, full-map, crowded-map, buffer-due-map}
 
 written-same : {A : Type 0} {v w : Write A} → written v ≡ written w → v ≡ w
@@ -32,9 +31,16 @@ module _ {S T A B : Type 0} (g : S → T) (f : A → B) where
   bad-docket-map : (op : Op A) → bad-docket (map-op f op) ≡ bad-docket op
   bad-docket-map (written (put k a)) = refl
   bad-docket-map (written (delete k)) = refl
-  bad-docket-map (written (delete-range lo hi)) = refl
+  bad-docket-map (written (delete-range lo hi date)) = refl
   bad-docket-map flush = refl
   bad-docket-map tick = refl
+
+  bad-date-map : (t : ℕ) (op : Op A) → bad-date t (map-op f op) ≡ bad-date t op
+  bad-date-map t (written (put k a)) = refl
+  bad-date-map t (written (delete k)) = refl
+  bad-date-map t (written (delete-range lo hi date)) = refl
+  bad-date-map t flush = refl
+  bad-date-map t tick = refl
 
   count-written-map : (op : Op A) → count-written (map-op f op) ≡ count-written op
   count-written-map (written w) = refl
@@ -66,6 +72,7 @@ module _ {S T A B : Type 0} (g : S → T) (f : A → B) where
       let second : Outcome S A = cond (out-of-slots t (c .op) s) (refused 7 (merge-all s .state)) last in
       rw (
         bad-docket-map (c .op),
+        bad-date-map t (c .op),
         out-of-slots-map t (c .op) s,
         merge-all-map g f s,
         prepared-map t (c .op) s,
@@ -88,16 +95,26 @@ module _ {S T A B : Type 0} (g : S → T) (f : A → B) where
   reads-map (value a) t = refl
   reads-map tombstone t = refl
 
-  find-map : (ps : List (Point S A)) (k : ℕ) (d : Found A) → find (map (map-point g f) ps) k (map-found f d) ≡ map-found f (find ps k d)
+  judged-map : (date : ℕ) (e : Entry A) (t : ℕ) → judged date (map-entry f e) t ≡ map-found f (judged date e t)
+  judged-map date e t = rw (reads-map e t) (sym (cond-ap (map-found f) (leb t date) absent (reads e t)))
+
+  find-map : (date : ℕ) (ps : List (Point S A)) (k : ℕ) (d : Found A) → find date (map (map-point g f) ps) k (map-found f d) ≡ map-found f (find date ps k d)
   unfolding find
-  find-map [] k d = refl
-  find-map (p ∷ ps) k d = rw (reads-map (p .entry) (p .stamp), find-map ps k d) (sym (cond-ap (map-found f) (eqb (p .key) k) _ _))
+  find-map date [] k d = refl
+  find-map date (p ∷ ps) k d = rw (judged-map date (p .entry) (p .stamp), find-map date ps k d) (sym (cond-ap (map-found f) (eqb (p .key) k) _ _))
+
+  latest-map : (rs : List (Range S)) (k : ℕ) → latest (map (map-range g f) rs) k ≡ latest rs k
+  unfolding latest
+  latest-map [] k = refl
+  latest-map (r ∷ rs) k = rw (latest-map rs k)
+
+  lookup-from-map : (date : ℕ) (ls : List (Level S A)) (k : ℕ) → lookup-from date (map (map-level g f) ls) k ≡ map-found f (lookup-from date ls k)
+  unfolding lookup-from
+  lookup-from-map date [] k = refl
+  lookup-from-map date (l ∷ ls) k = rw (latest-map (l .ranges) k, lookup-from-map (max date (latest (l .ranges) k)) ls k, find-map date (l .points) k)
 
   pub lookup-map : (ls : List (Level S A)) (k : ℕ) → lookup (map (map-level g f) ls) k ≡ map-found f (lookup ls k)
-  unfolding lookup
-  lookup-map [] k = refl
-  lookup-map (l ∷ ls) k =
-      rw (covered-map g f (l .ranges) k, lookup-map ls k, ← (cond-ap (map-found f) (covered (l .ranges) k) absent (lookup ls k)), find-map (l .points) k)
+  lookup-map ls k = lookup-from-map 0 ls k
 
   -- What became of a delete.
   pub accepted-map : (s : State S A) (c : Call A) → accepted (map-state g f s) (map-call f c) ≡ accepted s c
@@ -115,7 +132,7 @@ module _ {S T A B : Type 0} (g : S → T) (f : A → B) where
 
   merges-buffer-map : (s : State S A) (c : Call A) → merges-buffer (map-state g f s) (map-call f c) ≡ merges-buffer s c
   unfolding merges-buffer
-  merges-buffer-map s c = rw (bad-docket-map (c .op), merges-before-map (c .clock) (c .op) s, pass-merges-map s c)
+  merges-buffer-map s c = rw (bad-docket-map (c .op), bad-date-map (c .clock) (c .op), merges-before-map (c .clock) (c .op) s, pass-merges-map s c)
 
   merged-in-map : (s : State S A) (cs : List (Call A)) → merged-in (map-state g f s) (map (map-call f) cs) ≡ merged-in s cs
   unfolding merged-in
@@ -135,10 +152,10 @@ module _ {S T A B : Type 0} (g : S → T) (f : A → B) where
   call-at-map : (cs : List (Call A)) (i : ℕ) → call-at (map (map-call f) cs) i ≡ map-call f (call-at cs i)
   call-at-map cs i = List·getD-map (map-call f) cs i (record { clock = 0; op = tick })
 
-  write-covers-map : (w : Write A) (k : ℕ) → write-covers (map-write f w) k ≡ write-covers w k
-  write-covers-map (put n a) k = refl
-  write-covers-map (delete n) k = refl
-  write-covers-map (delete-range lo hi) k = refl
+  write-covers-map : (w : Write A) (k t : ℕ) → write-covers (map-write f w) k t ≡ write-covers w k t
+  write-covers-map (put n a) k t = refl
+  write-covers-map (delete n) k t = refl
+  write-covers-map (delete-range lo hi date) k t = refl
 
   before-map : (s : State S A) (cs : List (Call A)) (j : ℕ) → before (map-state g f s) (map (map-call f) cs) j ≡ map-state g f (before s cs j)
   before-map s cs j = rw (take-map j cs) (run-map s (take j cs))
@@ -161,12 +178,13 @@ module _ {S T A B : Type 0} (g : S → T) (f : A → B) where
   erased-map s cs i j k a w p q e =
       let same : map-write f w ≡ e .write = written-same (ap (map-op f) (sym q) ∙ ap (λ (c : Call B). c .op) (sym (call-at-map cs j)) ∙ e .is-write) in
       let d : Call A = call-at cs j in
+      let b : ℕ = call-at cs i .clock in
       record {
         is-put = p;
         after = e .after;
         write = w;
         is-write = q;
-        covers = sym (write-covers-map w k) ∙ ap (λ v. write-covers v k) same ∙ e .covers;
+        covers = sym (write-covers-map w k b) ∙ ap (λ v. write-covers v k b) same ∙ (rw (call-at-map cs i) at (e .covers));
         accept = sym (rw (before-map s cs j, call-at-map cs j) (accepted-map (before s cs j) d)) ∙ e .accept;
         fate = sym (rw (← same, merged-after-map s cs j, before-map s cs j, call-at-map cs j, full-map g f (d .clock) w (before s cs j))) ∙ e .fate;
         term = rw (call-at-map cs j, run-map s cs) at (e .term);
@@ -180,7 +198,7 @@ module _ {A : Type 0} where
       go : (op : Op A) → map-op (λ x. x) op ≡ op
       go (written (put k a)) = refl
       go (written (delete k)) = refl
-      go (written (delete-range lo hi)) = refl
+      go (written (delete-range lo hi date)) = refl
       go flush = refl
       go tick = refl
 

@@ -1,6 +1,6 @@
 -- A merge commutes with a change of tags and tallies: which records stand where hangs on neither.
 use mathlib.Core.Path.{_≡_, refl, sym, ap, _∙_}
-use mathlib.Core.Bool.{Bool, not}
+use mathlib.Core.Bool.{Bool, cond, not}
 use mathlib.Core.List.{List, [], _∷_, map}
 use Prim.Native.Nat.{ℕ}
 use lib.Dec.{eqb}
@@ -10,7 +10,7 @@ use Rattle.lists.proofs.Bools.{cond-ap}
 use Rattle.lists.proofs.Tests.{any-map, select-map, select-same, append-map, map-map}
 use Rattle.lists.proofs.Merges.{merge-map}
 use Rattle.model.specs.Records.{Entry, value, tombstone, Point, Range, Level, is-put, held, held-all}
-use Rattle.model.specs.Merge.{range-covers, covered, range-before, range-slots, names, point-before, point-slots, same-range, range-goes, point-goes, gone, later, merged, settled, delete-slots, joined, freed}
+use Rattle.model.specs.Merge.{range-covers, covered, range-before, range-slots, names, point-before, point-slots, same-range, range-goes, point-goes, gone, united, later, merged, settled, delete-slots, joined, freed}
 use Rattle.model.specs.Renaming.{map-entry, map-point, map-range, map-level}
 
 module _ {S T A B : Type 0} (g : S → T) (f : A → B) where
@@ -21,8 +21,8 @@ module _ {S T A B : Type 0} (g : S → T) (f : A → B) where
   pub names-map : (ps : List (Point S A)) (k : ℕ) → names (map (map-point g f) ps) k ≡ names ps k
   names-map ps k = any-map (map-point g f) (λ p. eqb (p .key) k) ps
 
-  pub covered-map : (rs : List (Range S)) (k : ℕ) → covered (map (map-range g f) rs) k ≡ covered rs k
-  covered-map rs k = any-map (map-range g f) (λ r. range-covers r k) rs
+  pub covered-map : (rs : List (Range S)) (k t : ℕ) → covered (map (map-range g f) rs) k t ≡ covered rs k t
+  covered-map rs k t = any-map (map-range g f) (λ r. range-covers r k t) rs
 
   pub held-map : (l : Level S A) → held (map-level g f l) ≡ held l
   held-map l = rw (length-map (l .points) (map-point g f), length-map (l .ranges) (map-range g f))
@@ -41,7 +41,8 @@ module _ {S T A B : Type 0} (g : S → T) (f : A → B) where
   pub later-map : (qs : List (Range S)) (r : Range S) → later (map (map-range g f) qs) (map-range g f r) ≡ map-range g f (later qs r)
   unfolding later
   later-map [] r = refl
-  later-map (q ∷ qs) r = rw (later-map qs r) (sym (cond-ap (map-range g f) (same-range q r) _ _))
+  later-map (q ∷ qs) r =
+      ap (later (map (map-range g f) qs)) (sym (cond-ap (map-range g f) (same-range q r) (united r q) r)) ∙ later-map qs (cond (same-range q r) (united r q) r)
 
   laters-map : (qs rs : List (Range S)) → map (later (map (map-range g f) qs)) (map (map-range g f) rs) ≡ map (map-range g f) (map (later qs) rs)
   laters-map qs [] = refl
@@ -68,7 +69,7 @@ module _ {S T A B : Type 0} (g : S → T) (f : A → B) where
   -- The upper level may have tags and tallies of its own.
   module _ {R Q C D : Type 0} (h : R → Q) (e : C → D) (u : Level R C) where
     pub point-goes-map : (p : Point S A) → point-goes (map-level h e u) (map-point g f p) ≡ point-goes u p
-    point-goes-map p = rw (any-map (map-point h e) (λ q. eqb (q .key) (p .key)) (u .points), any-map (map-range h e) (λ r. range-covers r (p .key)) (u .ranges))
+    point-goes-map p = rw (any-map (map-point h e) (λ q. eqb (q .key) (p .key)) (u .points), any-map (map-range h e) (λ r. range-covers r (p .key) (p .stamp)) (u .ranges))
 
     pub range-goes-map : (r : Range S) → range-goes (map (map-range h e) (u .ranges)) (map-range g f r) ≡ range-goes (u .ranges) r
     range-goes-map r = any-map (map-range h e) (λ q. same-range q r) (u .ranges)

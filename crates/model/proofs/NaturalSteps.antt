@@ -20,7 +20,7 @@ pub unplaced-map : {A B : Type 0} (f : A → B) (t : ℕ) (w : Write A) → unpl
 unfolding single
 unplaced-map f t (put k a) = refl
 unplaced-map f t (delete k) = refl
-unplaced-map f t (delete-range lo hi) = refl
+unplaced-map f t (delete-range lo hi date) = refl
 
 module _ {S T A B : Type 0} (g : S → T) (f : A → B) where
   pub level-map : (i : ℕ) (s : State S A) → level i (map-state g f s) ≡ map-level g f (level i s)
@@ -30,7 +30,7 @@ module _ {S T A B : Type 0} (g : S → T) (f : A → B) where
   unfolding single
   single-map x t (put k a) = refl
   single-map x t (delete k) = refl
-  single-map x t (delete-range lo hi) = refl
+  single-map x t (delete-range lo hi date) = refl
 
   pub merge-state-map : (i : ℕ) (s : State S A) → merge-state i (map-state g f s) ≡ map-state g f (merge-state i s)
   unfolding merge-state
@@ -110,7 +110,7 @@ module _ {S T A B : Type 0} (g : S → T) (f : A → B) where
       let i : ℕ = s .settings .deepest in
       rw (level-map i s, overwrite-map k a t (level i s .points)) (set-points-map i (map (overwrite k a t) (level i s .points)) s (s .free))
   act-deepest-map t (delete k) s = wipe-map (unplaced t (delete k)) (s .settings .deepest) s
-  act-deepest-map t (delete-range lo hi) s = wipe-map (unplaced t (delete-range lo hi)) (s .settings .deepest) s
+  act-deepest-map t (delete-range lo hi date) s = wipe-map (unplaced t (delete-range lo hi date)) (s .settings .deepest) s
 
   pub write-map : (t : ℕ) (w : Write A) (s : State S A) → write t (map-write f w) (map-state g f s) ≡ map-work g f (write t w s)
   unfolding write
@@ -124,7 +124,7 @@ module _ {S T A B : Type 0} (g : S → T) (f : A → B) where
       let m : State S A = merge-all s .state in
       rw (full-map t (put k a) s, merge-all-map s, level-map (s .settings .deepest) m, names-map g f (level (s .settings .deepest) m .points) k)
   no-slot-map t (delete k) s = refl
-  no-slot-map t (delete-range lo hi) s = refl
+  no-slot-map t (delete-range lo hi date) s = refl
 
   pub buffer-due-map : (s : State S A) → buffer-due (map-state g f s) ≡ buffer-due s
   unfolding buffer-due

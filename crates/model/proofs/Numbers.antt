@@ -35,7 +35,7 @@ module _ {S A : Type 0} where
   unfolding act-deepest set-points
   act-free t (put k a) s = omega arith
   act-free t (delete k) s = wipe-free (unplaced t (delete k)) (s .settings .deepest) s
-  act-free t (delete-range lo hi) s = wipe-free (unplaced t (delete-range lo hi)) (s .settings .deepest) s
+  act-free t (delete-range lo hi date) s = wipe-free (unplaced t (delete-range lo hi date)) (s .settings .deepest) s
 
   enter-at-free : (t : ℕ) (w : Write A) (s : State S A) (free : List S) → length (s .free) ≤ length free → length (s .free) ≤ length (enter-at t w s free .free) + 1
   unfolding enter-at

@@ -67,7 +67,7 @@ module _ {A : Type 0} where
   get-changed t (written (put n a)) rs k = by-cases (eqb n k)
       (λ e. rw e) (λ e. rw e (get-reject (λ j. eqb j n) rs k ∙ rw (eqb-sym k n, e)))
   get-changed t (written (delete n)) rs k = get-reject (write-covers {A = A} (delete n)) rs k
-  get-changed t (written (delete-range lo hi)) rs k = get-reject (write-covers {A = A} (delete-range lo hi)) rs k
+  get-changed t (written (delete-range lo hi date)) rs k = get-reject (write-covers {A = A} (delete-range lo hi date)) rs k
   get-changed t flush rs k = refl
   get-changed t tick rs k = refl
 
@@ -87,7 +87,7 @@ module _ {A : Type 0} where
   distinct-changed t (written (put n a)) rs d =
       (any-keys n (reject (has-key n) rs) ∙ any-select (λ r. not (has-key n r)) (has-key n) (λ r h. not-true (has-key n r) h) rs, distinct-select (λ r. not (has-key n r)) rs d)
   distinct-changed t (written (delete n)) rs d = distinct-select _ rs d
-  distinct-changed t (written (delete-range lo hi)) rs d = distinct-select _ rs d
+  distinct-changed t (written (delete-range lo hi date)) rs d = distinct-select _ rs d
   distinct-changed t flush rs d = d
   distinct-changed t tick rs d = d
 
@@ -175,7 +175,7 @@ module _ {S A : Type 0} (n : ℕ) (s : State S A) (m : PlainMap A) (same : Alike
   op-full-alike : (t : ℕ) (op : Op A) → map-full n op (m .rows) ≡ out-of-slots t op s
   op-full-alike t (written (put k a)) = full-alike t k a
   op-full-alike t (written (delete k)) = unfold no-slot in refl
-  op-full-alike t (written (delete-range lo hi)) = unfold no-slot in refl
+  op-full-alike t (written (delete-range lo hi date)) = unfold no-slot in refl
   op-full-alike t flush = refl
   op-full-alike t tick = refl
 

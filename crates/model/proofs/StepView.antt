@@ -8,45 +8,54 @@ use lib.Dec.{eqb}
 use Rattle.lists.proofs.Bools.{cond-elim}
 use Rattle.model.specs.Records.{State, held-all}
 use Rattle.model.specs.Steps.{Work, merge-all, pass}
-use Rattle.model.specs.Calls.{Call, Outcome, bad-docket, bad-clock, early-refusal, count-written, timed, prepared, out-of-slots, refused, finish, step}
+use Rattle.model.specs.Calls.{Call, Outcome, bad-docket, bad-clock, bad-date, early-refusal, count-written, timed, prepared, out-of-slots, refused, finish, step}
 use Rattle.model.specs.Erasure.{accepted}
 use Rattle.model.proofs.Settle.{never-still-due}
 
 -- What turns a call away at once is neither 7 nor 8.
 pub early-other : {A : Type 0} (last : ℕ) (c : Call A) → (early-refusal last c ≢ 7) × (early-refusal last c ≢ 8)
-early-other last c = go (bad-docket (c .op)) (bad-clock (c .clock) last)
+early-other last c = go (bad-docket (c .op)) (bad-clock (c .clock) last) (bad-date (c .clock) (c .op))
   where
-    go : (a b : Bool) → (_≢_ {A = ℕ} (cond a 4 (cond b 5 0)) 7) × (_≢_ {A = ℕ} (cond a 4 (cond b 5 0)) 8)
-    go true b = (omega arith, omega arith)
-    go false true = (omega arith, omega arith)
-    go false false = (omega arith, omega arith)
+    go : (a b d : Bool) → (_≢_ {A = ℕ} (cond a 4 (cond b 5 (cond d 10 0))) 7) × (_≢_ {A = ℕ} (cond a 4 (cond b 5 (cond d 10 0))) 8)
+    go true b d = (omega arith, omega arith)
+    go false true d = (omega arith, omega arith)
+    go false false true = (omega arith, omega arith)
+    go false false false = (omega arith, omega arith)
 
-pub early-most : {A : Type 0} (last : ℕ) (c : Call A) → early-refusal last c ≤ 5
-early-most last c = go (bad-docket (c .op)) (bad-clock (c .clock) last)
+pub early-most : {A : Type 0} (last : ℕ) (c : Call A) → early-refusal last c ≤ 10
+early-most last c = go (bad-docket (c .op)) (bad-clock (c .clock) last) (bad-date (c .clock) (c .op))
   where
-    go : (a b : Bool) → cond a 4 (cond b 5 0) ≤ 5
-    go true b = omega arith
-    go false true = omega arith
-    go false false = omega arith
+    go : (a b d : Bool) → cond a 4 (cond b 5 (cond d 10 0)) ≤ 10
+    go true b d = omega arith
+    go false true d = omega arith
+    go false false true = omega arith
+    go false false false = omega arith
 
 -- A call that is not turned away has dockets in range and a clock that is allowed.
 module _ {A : Type 0} (last : ℕ) (c : Call A) where
   pub let-in-docket : eqb (early-refusal last c) 0 ≡ true → bad-docket (c .op) ≡ false
   let-in-docket = go (bad-docket (c .op))
     where
-      go : (a : Bool) → eqb (cond a 4 (cond (bad-clock (c .clock) last) 5 0)) 0 ≡ true → a ≡ false
+      go : (a : Bool) → eqb (cond a 4 (cond (bad-clock (c .clock) last) 5 (cond (bad-date (c .clock) (c .op)) 10 0))) 0 ≡ true → a ≡ false
       go true h = absurd (false≢true h)
       go false h = refl
 
   pub let-in-time : eqb (early-refusal last c) 0 ≡ true → bad-clock (c .clock) last ≡ false
   let-in-time h = go (bad-clock (c .clock) last) (rw (let-in-docket h) at h)
     where
-      go : (b : Bool) → eqb (cond b 5 0) 0 ≡ true → b ≡ false
+      go : (b : Bool) → eqb (cond b 5 (cond (bad-date (c .clock) (c .op)) 10 0)) 0 ≡ true → b ≡ false
       go true h = absurd (false≢true h)
       go false h = refl
 
-  pub let-in : bad-docket (c .op) ≡ false → bad-clock (c .clock) last ≡ false → eqb (early-refusal last c) 0 ≡ true
-  let-in d e = rw (d, e)
+  pub let-in-date : eqb (early-refusal last c) 0 ≡ true → bad-date (c .clock) (c .op) ≡ false
+  let-in-date h = go (bad-date (c .clock) (c .op)) (rw (let-in-docket h, let-in-time h) at h)
+    where
+      go : (d : Bool) → eqb (cond d 10 0) 0 ≡ true → d ≡ false
+      go true h = absurd (false≢true h)
+      go false h = refl
+
+  pub let-in : bad-docket (c .op) ≡ false → bad-clock (c .clock) last ≡ false → bad-date (c .clock) (c .op) ≡ false → eqb (early-refusal last c) 0 ≡ true
+  let-in d e f = rw (d, e, f)
 
 module _ {S A : Type 0} (s : State S A) (c : Call A) where
   -- The work of an accepted call, its pass included.

@@ -1,6 +1,6 @@
 -- No slot is lost: whatever a slot weighs, every part of a call keeps the weight of the free slots and the records together.
 use mathlib.Core.Path.{_≡_, refl, ap, _∙_}
-use mathlib.Core.Bool.{Bool, true, false, true≢false}
+use mathlib.Core.Bool.{cond, Bool, true, false, true≢false}
 use mathlib.Core.List.{List, [], _∷_, map}
 use Prim.Native.Nat.{ℕ, suc, _+_, _<_}
 use native.Mathlib.Omega.{arith}
@@ -11,7 +11,7 @@ use Rattle.lists.specs.Lists.{none, any, select, reject, sum}
 use Rattle.lists.proofs.Bools.{cond-elim}
 use Rattle.lists.proofs.Counting.{sum-set, sum-append, sum-reverse, sum-select, sum-merge, sum-map, sum-same}
 use Rattle.model.specs.Records.{Point, Range, Level, State, is-put, empty, level}
-use Rattle.model.specs.Merge.{range-before, range-slots, point-before, point-slots, same-range, range-goes, point-goes, gone, later, release, merged, settled, delete-slots, joined, freed}
+use Rattle.model.specs.Merge.{range-before, range-slots, point-before, point-slots, same-range, range-goes, point-goes, gone, united, later, release, merged, settled, delete-slots, joined, freed}
 use Rattle.model.specs.Steps.{Write, put, delete, delete-range, single, unplaced, merge-state, displaced, enter-at, enter, overwrite, set-points, wipe, act-deepest}
 
 -- The weight of points, of ranges and of a level, by their slots.
@@ -35,13 +35,15 @@ module _ {S A : Type 0} where
   unfolding single any
   gone-single x t (put k a) l = refl
   gone-single x t (delete k) l = refl
-  gone-single x t (delete-range lo hi) l = refl
+  gone-single x t (delete-range lo hi date) l = refl
 
 module _ {S : Type 0} (g : S → ℕ) where
   later-slot : (qs : List (Range S)) (r : Range S) → later qs r .slot ≡ r .slot
   unfolding later
   later-slot [] r = refl
-  later-slot (q ∷ qs) r = cond-elim (λ (x : Range S). x .slot ≡ r .slot) (same-range q r) _ (later qs r) (λ e. refl) (λ e. later-slot qs r)
+  later-slot (q ∷ qs) r =
+      later-slot qs (cond (same-range q r) (united r q) r)
+      ∙ cond-elim (λ (x : Range S). x .slot ≡ r .slot) (same-range q r) (united r q) r (λ e. refl) (λ e. refl)
 
   weigh-later : (qs rs : List (Range S)) → weigh-ranges g (map (later qs) rs) ≡ weigh-ranges g rs
   weigh-later qs rs = sum-map (λ r. g (r .slot)) (later qs) rs ∙ sum-same _ _ (λ r. ap g (later-slot qs r)) rs
@@ -80,7 +82,7 @@ module _ {S : Type 0} (g : S → ℕ) where
     unfolding single sum
     weigh-single x t (put k a) = omega arith
     weigh-single x t (delete k) = omega arith
-    weigh-single x t (delete-range lo hi) = omega arith
+    weigh-single x t (delete-range lo hi date) = omega arith
 
     weigh-empty : (l : Level S A) → l ≡ empty → weigh-level g l ≡ 0
     unfolding sum
@@ -146,4 +148,4 @@ module _ {S : Type 0} (g : S → ℕ) where
         set-points-weight (s .settings .deepest) (map (overwrite k a t) ps) s (s .free) h
         (ap (λ n. n + sum g (s .free)) (sum-map (λ p. g (p .slot)) (overwrite k a t) ps ∙ sum-same _ _ (λ p. ap g (overwrite-slot k a t p)) ps))
     act-weight t (delete k) s h = wipe-weight (unplaced t (delete k)) (s .settings .deepest) s h
-    act-weight t (delete-range lo hi) s h = wipe-weight (unplaced t (delete-range lo hi)) (s .settings .deepest) s h
+    act-weight t (delete-range lo hi date) s h = wipe-weight (unplaced t (delete-range lo hi date)) (s .settings .deepest) s h

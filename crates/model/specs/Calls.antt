@@ -37,7 +37,7 @@ module _ {A : Type 0} where
   abbrev pub bad-docket : Op A → Bool
   bad-docket (written (put k a)) = ltb 65535 k
   bad-docket (written (delete k)) = ltb 65535 k
-  bad-docket (written (delete-range lo hi)) = ltb 65535 hi || ltb hi lo
+  bad-docket (written (delete-range lo hi date)) = ltb 65535 hi || ltb hi lo
   bad-docket flush = false
   bad-docket tick = false
 
@@ -52,9 +52,17 @@ abbrev pub bad-clock : ℕ → ℕ → Bool
 bad-clock t last = eqb t 0 || ltb t last
 
 module _ {A : Type 0} where
-  -- What turns a call away at once, by the last accepted clock: the docket, then the clock; 0 where nothing does.
+  -- Refusal 10: "s is 0 or after the call's clock".
+  abbrev pub bad-date : ℕ → Op A → Bool
+  bad-date t (written (put k a)) = false
+  bad-date t (written (delete k)) = false
+  bad-date t (written (delete-range lo hi date)) = eqb date 0 || ltb t date
+  bad-date t flush = false
+  bad-date t tick = false
+
+  -- What turns a call away at once, by the last accepted clock: the docket, the clock, then "10, … directly after 5"; 0 where nothing does.
   abbrev pub early-refusal : ℕ → Call A → ℕ
-  early-refusal last c = cond (bad-docket (c .op)) 4 (cond (bad-clock (c .clock) last) 5 0)
+  early-refusal last c = cond (bad-docket (c .op)) 4 (cond (bad-clock (c .clock) last) 5 (cond (bad-date (c .clock) (c .op)) 10 0))
 
 module _ {S A : Type 0} where
   -- The call's clock becomes the last accepted one.

@@ -1,7 +1,7 @@
 -- Document 01, "Edges" and "The script program": the ● cases and the script, as one table of equations.
 use mathlib.Core.Path.{_≡_}
 use mathlib.Core.Bool.{true, false}
-use mathlib.Core.List.{List, [], _∷_, _++_}
+use mathlib.Core.List.{List, [], _∷_, _++_, map}
 use Prim.Native.Nat.{ℕ, _≤_}
 use Rattle.settings.specs.declared.Settings.{Settings}
 use Rattle.settings.specs.Limits.{limit}
@@ -20,7 +20,7 @@ store n s = slotless n s
 abbrev pub accepts : ℕ → ℕ → Answer
 accepts m p = record { refusal = 0; merges = m; purged = p }
 
--- The lines of the script: P, D, R, F and T.
+-- The lines of the script: P, D, R, Y, F and T.
 abbrev pub P : ℕ → ℕ → ℕ → Call ℕ
 P t k v = record { clock = t; op = written (put k v) }
 
@@ -28,7 +28,11 @@ abbrev pub D : ℕ → ℕ → Call ℕ
 D t k = record { clock = t; op = written (delete k) }
 
 abbrev pub R : ℕ → ℕ → ℕ → Call ℕ
-R t lo hi = record { clock = t; op = written (delete-range lo hi) }
+R t lo hi = record { clock = t; op = written (delete-range lo hi t) }
+
+-- Request S-1: "The script line is `Y t lo hi s`."
+abbrev pub Y : ℕ → ℕ → ℕ → ℕ → Call ℕ
+Y t lo hi s = record { clock = t; op = written (delete-range lo hi s) }
 
 abbrev pub F : ℕ → Call ℕ
 F t = record { clock = t; op = flush }
@@ -70,6 +74,11 @@ pub record CaseTable : Type 0 where
   -- "● Range delete 0 to 65,535 on a fresh store is accepted; lo 1 hi 0 is 4."
   pub widest-range : step hall (R 1 0 65535) .answer ≡ accepts 0 0
   pub crossed-range : step hall (R 1 1 0) .answer ≡ refusing 4
+  -- Request S-1: "10, s is 0 or after the call's clock, directly after 5"; a date equal to the clock is allowed.
+  pub dates : answers hall (Y 5 0 9 0 ∷ Y 5 0 9 6 ∷ Y 0 0 9 6 ∷ Y 5 0 9 5 ∷ []) ≡ refusing 10 ∷ refusing 10 ∷ refusing 5 ∷ accepts 0 0 ∷ []
+  -- A put after a range delete at the same clock stays live; of two pallets the one graded up to the day goes.
+  pub same-clock : lookup (run hall (P 3 5 50 ∷ Y 3 0 9 3 ∷ P 3 5 51 ∷ []) .levels) 5 ≡ found 51 3
+  pub up-to-the-date : map (lookup (run hall (P 3 5 50 ∷ P 4 6 60 ∷ Y 9 0 9 3 ∷ F 9 ∷ []) .levels)) (5 ∷ 6 ∷ []) ≡ absent ∷ found 60 4 ∷ []
   -- The script and its output, lookups apart.
   pub script :
       answers hall (noon ++ T 5 ∷ T 11 ∷ F 10 ∷ [])

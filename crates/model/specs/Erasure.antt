@@ -62,7 +62,8 @@ pub record Erased {S A : Type 0} (s : State S A) (cs : List (Call A)) (i j k : �
   pub after : i < j
   pub write : Write A
   pub is-write : call-at cs j .op ≡ written write
-  pub covers : write-covers write k ≡ true
+  -- "an erased tally in the third demand is one that such a delete covered": the put's stamp is its clock.
+  pub covers : write-covers write k (call-at cs i .clock) ≡ true
   -- "Accepted is a call that meets no refusal."
   pub accept : accepted (before s cs j) (call-at cs j) ≡ true
   -- "it acted on level L directly where the steps say so, else it entered the buffer"

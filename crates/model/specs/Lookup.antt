@@ -1,11 +1,11 @@
 -- Document 01, "Steps": lookup and scan, which write nothing.
 use mathlib.Core.Bool.{Bool, true, false, cond}
 use mathlib.Core.List.{List, [], _∷_}
-use Prim.Native.Nat.{ℕ, zero, suc, _-_}
-use lib.Dec.{ltb, eqb}
+use Prim.Native.Nat.{ℕ, zero, suc, _-_, max}
+use lib.Dec.{leb, ltb, eqb}
 use lib.ListN.{length, take, drop}
-use Rattle.model.specs.Records.{Entry, value, tombstone, Point, Level}
-use Rattle.model.specs.Merge.{covered}
+use Rattle.model.specs.Records.{Entry, value, tombstone, Point, Range, Level}
+use Rattle.model.specs.Coverage.{over}
 
 -- "Absent gives tally and stamp 0": the numbers of `absent` are given where a tally is a number.
 pub data Found (A : Type 0) : Type 0 where
@@ -66,13 +66,27 @@ module _ {A : Type 0} where
         next = first-key (drop room rows);
       }
 
+module _ {S : Type 0} where
+  -- The latest date of the ranges over a docket; 0 where there is none, which no stamp is at or below.
+  unfoldable pub latest : List (Range S) → ℕ → ℕ
+  latest [] k = 0
+  latest (r ∷ rs) k = cond (over (r .lo) (r .hi) k) (max (r .date) (latest rs k)) (latest rs k)
+
+module _ {A : Type 0} where
+  -- "a point found deeper with a stamp at or below it is absent"
+  abbrev pub judged : ℕ → Entry A → ℕ → Found A
+  judged date x stamp = cond (leb stamp date) absent (reads x stamp)
+
 module _ {S A : Type 0} where
   -- What the points of a level decide of a docket, or else what the deeper levels do.
-  unfoldable pub find : List (Point S A) → ℕ → Found A → Found A
-  find [] k deeper = deeper
-  find (p ∷ ps) k deeper = cond (eqb (p .key) k) (reads (p .entry) (p .stamp)) (find ps k deeper)
+  unfoldable pub find : ℕ → List (Point S A) → ℕ → Found A → Found A
+  find date [] k deeper = deeper
+  find date (p ∷ ps) k deeper = cond (eqb (p .key) k) (judged date (p .entry) (p .stamp)) (find date ps k deeper)
 
-  -- "The first level with a point of the docket decides; before going deeper, a range over the docket means absent."
-  unfoldable pub lookup : List (Level S A) → ℕ → Found A
-  lookup [] k = absent
-  lookup (l ∷ ls) k = find (l .points) k (cond (covered (l .ranges) k) absent (lookup ls k))
+  -- "The first level with a point of the docket decides"; "a lookup carries the latest s met so far for its docket".
+  unfoldable pub lookup-from : ℕ → List (Level S A) → ℕ → Found A
+  lookup-from date [] k = absent
+  lookup-from date (l ∷ ls) k = find date (l .points) k (lookup-from (max date (latest (l .ranges) k)) ls k)
+
+  abbrev pub lookup : List (Level S A) → ℕ → Found A
+  lookup ls k = lookup-from 0 ls k

@@ -8,12 +8,12 @@ use Rattle.model.specs.Records.{Point, Range, Level, is-put}
 use Rattle.model.specs.Coverage.{covers}
 
 module _ {S : Type 0} where
-  -- A range covers the docket; some range of a level does.
-  abbrev pub range-covers : Range S → ℕ → Bool
-  range-covers r k = covers (r .lo) (r .hi) k
+  -- A range covers a record of docket k with a stamp; some range of a level does.
+  abbrev pub range-covers : Range S → ℕ → ℕ → Bool
+  range-covers r k stamp = covers (r .lo) (r .hi) (r .date) k stamp
 
-  abbrev pub covered : List (Range S) → ℕ → Bool
-  covered rs k = any (λ r. range-covers r k) rs
+  abbrev pub covered : List (Range S) → ℕ → ℕ → Bool
+  covered rs k stamp = any (λ r. range-covers r k stamp) rs
 
   -- "ranges ascend strictly by lo, then hi"
   abbrev pub range-before : Range S → Range S → Bool
@@ -42,9 +42,9 @@ module _ {R S : Type 0} where
   range-goes rs q = any (λ r. same-range r q) rs
 
 module _ {R S A B : Type 0} where
-  -- "A point of i+1 goes if i has a point of that docket or a range over it."
+  -- "A point of i+1 goes if i has a point of that docket or a range over it", which covers by stamp too. The ranges are those of i as they were.
   abbrev pub point-goes : Level R A → Point S B → Bool
-  point-goes u p = names (u .points) (p .key) || covered (u .ranges) (p .key)
+  point-goes u p = names (u .points) (p .key) || covered (u .ranges) (p .key) (p .stamp)
 
   -- The slots of what goes, in the order in which it goes.
   abbrev pub gone : Level R A → Level S B → List S
@@ -53,13 +53,14 @@ module _ {R S A B : Type 0} where
       ++ range-slots (select (range-goes (u .ranges)) (l .ranges))
 
 module _ {S : Type 0} where
-  -- "with the later stamp": a range, seen beside the ranges below it
+  -- "Of two ranges with equal lo and hi the one left keeps the later s and the later stamp."
+  abbrev pub united : Range S → Range S → Range S
+  united r q = record { slot = r .slot; lo = r .lo; hi = r .hi; date = max (r .date) (q .date); stamp = max (r .stamp) (q .stamp) }
+
+  -- A range, seen beside the ranges below it.
   unfoldable pub later : List (Range S) → Range S → Range S
   later [] r = r
-  later (q ∷ qs) r =
-      cond (same-range q r)
-      (record { slot = r .slot; lo = r .lo; hi = r .hi; stamp = max (r .stamp) (q .stamp) })
-      (later qs r)
+  later (q ∷ qs) r = later qs (cond (same-range q r) (united r q) r)
 
   -- "put on the free chain, to be used again": the last to go is the first to be used
   abbrev pub release : List S → List S → List S

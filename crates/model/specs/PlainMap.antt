@@ -26,8 +26,8 @@ module _ {A : Type 0} where
   -- A put sets its docket's row; a delete takes away what it covers; flush and tick change nothing.
   unfoldable pub changed : ℕ → Op A → List (Row A) → List (Row A)
   changed t (written (put k a)) rs = record { key = k; tally = a; stamp = t } ∷ reject (has-key k) rs
-  changed t (written (delete k)) rs = reject (λ r. write-covers {A = A} (delete k) (r .key)) rs
-  changed t (written (delete-range lo hi)) rs = reject (λ r. write-covers {A = A} (delete-range lo hi) (r .key)) rs
+  changed t (written (delete k)) rs = reject (λ r. write-covers {A = A} (delete k) (r .key) (r .stamp)) rs
+  changed t (written (delete-range lo hi date)) rs = reject (λ r. write-covers {A = A} (delete-range lo hi date) (r .key) (r .stamp)) rs
   changed t flush rs = rs
   changed t tick rs = rs
 
@@ -35,11 +35,11 @@ module _ {A : Type 0} where
   abbrev pub map-full : ℕ → Op A → List (Row A) → Bool
   map-full slots (written (put k a)) rs = leb slots (length rs) && not (any (has-key k) rs)
   map-full slots (written (delete k)) rs = false
-  map-full slots (written (delete-range lo hi)) rs = false
+  map-full slots (written (delete-range lo hi date)) rs = false
   map-full slots flush rs = false
   map-full slots tick rs = false
 
-  -- Refusals 4, 5 and 7, in the table's order.
+  -- Refusals 4, 5, 10 and 7, in the table's order.
   unfoldable pub map-refusal : ℕ → PlainMap A → Call A → ℕ
   map-refusal slots m c =
       let early = early-refusal (m .clock) c in

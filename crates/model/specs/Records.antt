@@ -19,11 +19,12 @@ pub record Point (S A : Type 0) : Type 0 where
   pub entry : Entry A
   pub stamp : ℕ
 
--- A range record (kind 3): a delete of the dockets from lo to hi, "both included".
+-- A range record (kind 3): a delete of the dockets from lo to hi, "both included", of what was put up to its date.
 pub record Range (S : Type 0) : Type 0 where
   pub slot : S
   pub lo : ℕ
   pub hi : ℕ
+  pub date : ℕ
   pub stamp : ℕ
 
 -- "Owed is the earliest clock of any delete that came into the level, itself or through merges,

@@ -17,7 +17,7 @@ module _ {A B : Type 0} (f : A → B) where
   abbrev pub map-write : Write A → Write B
   map-write (put k a) = put k (f a)
   map-write (delete k) = delete k
-  map-write (delete-range lo hi) = delete-range lo hi
+  map-write (delete-range lo hi date) = delete-range lo hi date
 
   abbrev pub map-op : Op A → Op B
   map-op (written w) = written (map-write w)
@@ -32,7 +32,7 @@ module _ {S T A B : Type 0} (g : S → T) (f : A → B) where
   map-point p = record { slot = g (p .slot); key = p .key; entry = map-entry f (p .entry); stamp = p .stamp }
 
   abbrev pub map-range : Range S → Range T
-  map-range r = record { slot = g (r .slot); lo = r .lo; hi = r .hi; stamp = r .stamp }
+  map-range r = record { slot = g (r .slot); lo = r .lo; hi = r .hi; date = r .date; stamp = r .stamp }
 
   abbrev pub map-level : Level S A → Level T B
   map-level l = record { points = map map-point (l .points); ranges = map map-range (l .ranges); owed = l .owed }

@@ -8,7 +8,7 @@ use Rattle.settings.specs.declared.Settings.{Settings}
 use Rattle.settings.specs.Limits.{capacity, limit}
 use Rattle.lists.specs.Lists.{none, select, reject, iterate}
 use Rattle.model.specs.Records.{value, tombstone, Point, Level, State, empty, level, stored, held}
-use Rattle.model.specs.Coverage.{covers}
+use Rattle.model.specs.Coverage.{over, covers}
 use Rattle.model.specs.Merge.{names, point-slots, point-goes, gone, release, merged, joined, freed}
 
 -- A state, and the merges that led to it: "those whose upper level had a record".
@@ -16,25 +16,25 @@ pub record Work (S A : Type 0) : Type 0 where
   pub state : State S A
   pub merges : ℕ
 
--- "A write (put, delete, range delete)".
+-- "A write (put, delete, range delete)". A range delete has lo, hi and its date; "without a date" it has "its own clock as s".
 pub data Write (A : Type 0) : Type 0 where
   put : ℕ → A → Write A
   delete : ℕ → Write A
-  delete-range : ℕ → ℕ → Write A
+  delete-range : ℕ → ℕ → ℕ → Write A
 
 module _ {A : Type 0} where
-  -- A write covers the docket: a put none, a delete its own.
-  abbrev pub write-covers : Write A → ℕ → Bool
-  write-covers (put k a) n = false
-  write-covers (delete k) n = covers k k n
-  write-covers (delete-range lo hi) n = covers lo hi n
+  -- A write covers a record of docket n with a stamp: a put none, a delete its own docket's.
+  abbrev pub write-covers : Write A → ℕ → ℕ → Bool
+  write-covers (put k a) n stamp = false
+  write-covers (delete k) n stamp = over k k n
+  write-covers (delete-range lo hi date) n stamp = covers lo hi date n stamp
 
 module _ {S A : Type 0} where
   -- "a level of one record …; owed of that level is the clock for a delete, 0 for a put"
   unfoldable pub single : S → ℕ → Write A → Level S A
   single x t (put k a) = record { points = record { slot = x; key = k; entry = value a; stamp = t } ∷ []; ranges = []; owed = 0 }
   single x t (delete k) = record { points = record { slot = x; key = k; entry = tombstone; stamp = t } ∷ []; ranges = []; owed = t }
-  single x t (delete-range lo hi) = record { points = []; ranges = record { slot = x; lo = lo; hi = hi; stamp = t } ∷ []; owed = t }
+  single x t (delete-range lo hi date) = record { points = []; ranges = record { slot = x; lo = lo; hi = hi; date = date; stamp = t } ∷ []; owed = t }
 
 module _ {A : Type 0} where
   -- The same before a slot is chosen, to ask what it makes go.
@@ -99,7 +99,7 @@ module _ {S A : Type 0} where
       let i = s .settings .deepest in
       set-points i (map (overwrite k a t) (level i s .points)) s (s .free)
   act-deepest t (delete k) s = wipe (unplaced t (delete k)) (s .settings .deepest) s
-  act-deepest t (delete-range lo hi) s = wipe (unplaced t (delete-range lo hi)) (s .settings .deepest) s
+  act-deepest t (delete-range lo hi date) s = wipe (unplaced t (delete-range lo hi date)) (s .settings .deepest) s
 
   -- "If no slot is free and the entry would free none in the buffer, levels 0 to L−1 are first merged in order."
   unfoldable pub crowded : ℕ → Write A → State S A → Bool
@@ -123,7 +123,7 @@ module _ {S A : Type 0} where
   unfoldable pub no-slot : ℕ → Write A → State S A → Bool
   no-slot t (put k a) s = full t (put k a) s && not (names (level (s .settings .deepest) (merge-all s .state) .points) k)
   no-slot t (delete k) s = false
-  no-slot t (delete-range lo hi) s = false
+  no-slot t (delete-range lo hi date) s = false
 
   -- The pass: "if the buffer has B records or more it is merged".
   unfoldable pub buffer-due : State S A → Bool
