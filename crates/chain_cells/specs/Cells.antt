@@ -28,12 +28,16 @@ cell-key c = cell-lo c * 65536 + cell-hi c
 abbrev pub cell-before : Cell → Cell → Bool
 cell-before c d = ltb (cell-key c) (cell-key d)
 
--- A range's cell covers the docket; some cell of ranges does; some cell of points has it.
-abbrev pub cell-covers : Cell → ℕ → Bool
-cell-covers c k = covers (cell-lo c) (cell-hi c) k
+-- Word 2 of a range's cell.
+abbrev pub cell-date : Cell → ℕ
+cell-date c = c .tally
 
-abbrev pub cells-cover : List Cell → ℕ → Bool
-cells-cover cs k = any (λ c. cell-covers c k) cs
+-- A range's cell covers a record of docket k with stamp t; some cell of ranges does; some cell of points has the docket.
+abbrev pub cell-covers : Cell → ℕ → ℕ → Bool
+cell-covers c k t = covers (cell-lo c) (cell-hi c) (cell-date c) k t
+
+abbrev pub cells-cover : List Cell → ℕ → ℕ → Bool
+cells-cover cs k t = any (λ c. cell-covers c k t) cs
 
 abbrev pub cells-name : List Cell → ℕ → Bool
 cells-name cs k = any (λ c. eqb (cell-lo c) k) cs

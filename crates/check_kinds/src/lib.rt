@@ -3,6 +3,7 @@ use table_slots::DELETE;
 use table_slots::FREE;
 use table_slots::PUT;
 use table_slots::RANGE;
+use table_slots::date_of;
 use table_slots::hi_of;
 use table_slots::kind_of;
 use table_slots::lo_of;
@@ -49,7 +50,7 @@ pub fn is_point(e: &[u32], s: usize) -> bool
     tally == 0
 }
 
-// A range delete without a tally.
+// A range delete with a date from 1 to its stamp.
 pub fn is_range(e: &[u32], s: usize) -> bool
     requires { ⌜ InTable (now e) s ⌝ }
     ensures { λ r. ⌜ r ≡ is-range (now (e .entry)) s ⌝ }
@@ -60,5 +61,9 @@ pub fn is_range(e: &[u32], s: usize) -> bool
     if kind_of(e, s) != RANGE {
         return false;
     }
-    tally_of(e, s) == 0
+    let date = date_of(e, s);
+    if date < 1 {
+        return false;
+    }
+    date <= stamp_of(e, s)
 }

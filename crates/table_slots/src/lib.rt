@@ -1,7 +1,7 @@
 // The words of the entry table: a slot read and written, slot 0 included, and how many slots there are.
 ghost use mathlib.Core.Path.{_≡_};
 ghost use Prim.Native.Nat.{_<_, _≤_};
-ghost use Rattle.tables.specs.Slots.{entry-length, slots-of, InTable, slot-at, set-slot, link-to, span-from, next-of, kind-of, span-of, lo-of, hi-of, tally-of, stamp-of, free-slot, top-slot, first-free, clock-of, with-link, with-clock, with-stamp, with-value};
+ghost use Rattle.tables.specs.Slots.{entry-length, slots-of, InTable, slot-at, set-slot, link-to, span-from, next-of, kind-of, span-of, lo-of, hi-of, tally-of, date-of, stamp-of, free-slot, top-slot, first-free, clock-of, with-link, with-clock, with-stamp, with-value};
 ghost use Rattle.tables.specs.Sound.{order-key, top-blank, entries-fit};
 
 // The kinds of records; a free slot has kind 0.
@@ -63,6 +63,14 @@ pub fn tally_of(e: &[u32], slot: usize) -> u32
     ensures { λ r. ⌜ r ≡ tally-of (now (e .entry)) slot ⌝ }
 {
     e[WORDS * slot + 2]
+}
+
+// Word 2 of a range delete.
+pub fn date_of(e: &[u32], slot: usize) -> u32
+    requires { ⌜ InTable (now e) slot ⌝ }
+    ensures { λ r. ⌜ r ≡ date-of (now (e .entry)) slot ⌝ }
+{
+    tally_of(e, slot)
 }
 
 pub fn stamp_of(e: &[u32], slot: usize) -> u32

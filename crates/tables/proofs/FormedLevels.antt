@@ -7,16 +7,16 @@ use native.Mathlib.Omega.{arith}
 use native.Mathlib.Decide.{ℕ-discrete, decLt}
 use lib.Dec.{eqb, ltb}
 use lib.ListN.{length, length-map}
-use borrow.Author.Tests.{ltb-true, ltb-false, lt-ltb, eqb-true, eq-eqb, not-true}
+use borrow.Author.Tests.{ltb-true, ltb-false, lt-ltb, eqb-true, eqb-false, eq-eqb, not-true}
 use Rattle.lists.specs.Lists.{any, reject}
 use Rattle.lists.specs.All.{All, Ascending}
 use Rattle.lists.proofs.Bools.{cond-elim, by-cases, or-false-left, or-false-right, or-left, or-right, and-intro, and-left, and-right}
 use Rattle.lists.proofs.Tests.{length-select, select-never, all-select, all-selected, all-weaken, all-map}
 use Rattle.lists.proofs.Merges.{Apart, all-merge, merge-ascending, select-ascending, map-ascending, length-merge}
 use Rattle.model.specs.Records.{Point, Range, Level, is-put, empty, held}
-use Rattle.model.specs.Merge.{point-before, range-before, same-range, point-goes, range-goes, later, earlier, merged, settled, joined}
+use Rattle.model.specs.Merge.{point-before, range-before, same-range, point-goes, range-goes, united, later, earlier, merged, settled, joined}
 use Rattle.model.specs.Steps.{Write, put, delete, delete-range, single, overwrite}
-use Rattle.model.specs.Calls.{written, bad-docket}
+use Rattle.model.specs.Calls.{written, bad-docket, bad-date}
 use Rattle.model.proofs.Marks.{earlier-left, earlier-right}
 use Rattle.model.proofs.Form.{merged-ordered, overwrite-key, overwrite-ordered}
 use Rattle.tables.specs.Formed.{LevelFormed}
@@ -64,29 +64,43 @@ module _ {S : Type 0} where
           absurd (true≢false (sym (and-intro (eqb (p .lo) (q .lo)) (eqb (p .hi) (q .hi)) (eq-eqb (p .lo) (q .lo) e) (eq-eqb (p .hi) (q .hi) x)) ∙ n))
       go e le (no x) = omega arith
 
+  -- A range's stamp and date, in a table whose last clock is t.
+  abbrev Stamped : ℕ → Range S → Type 0
+  Stamped t r = (1 ≤ r .stamp) × (r .stamp ≤ t)
+
+  abbrev Dated : Range S → Type 0
+  Dated r = (1 ≤ r .date) × (r .date ≤ r .stamp)
+
   -- A range beside those below it: its own lo and hi, and a stamp that is no earlier.
   record Beside (t : ℕ) (r x : Range S) : Type 0 where
     lo-same : x .lo ≡ r .lo
     hi-same : x .hi ≡ r .hi
     no-earlier : r .stamp ≤ x .stamp
     in-time : r .stamp ≤ t → x .stamp ≤ t
+    dated : Dated r → Dated x
 
-  later-beside : (t : ℕ) (qs : List (Range S)) (r : Range S) → All (λ q. (1 ≤ q .stamp) × (q .stamp ≤ t)) qs → Beside t r (later qs r)
+  later-beside : (t : ℕ) (qs : List (Range S)) (r : Range S) → All (Stamped t) qs → All Dated qs → Beside t r (later qs r)
   unfolding later
-  later-beside t [] r a = record { lo-same = refl; hi-same = refl; no-earlier = omega arith; in-time = λ h. h }
-  later-beside t (q ∷ qs) r a =
-      cond-elim (Beside t r) (same-range q r) _ (later qs r)
-      (λ e. record { lo-same = refl; hi-same = refl; no-earlier = omega arith; in-time = λ h. omega (arith, a .0 .1) })
-      (λ e. later-beside t qs r (a .1))
+  later-beside t [] r a d = record { lo-same = refl; hi-same = refl; no-earlier = omega arith; in-time = λ h. h; dated = λ h. h }
+  later-beside t (q ∷ qs) r a d =
+      cond-elim (λ x. Beside t r (later qs x)) (same-range q r) (united r q) r
+      (λ e. let b = later-beside t qs (united r q) (a .1) (d .1) in record {
+        lo-same = b .lo-same;
+        hi-same = b .hi-same;
+        no-earlier = omega (arith, b .no-earlier);
+        in-time = λ h. b .in-time (omega (arith, h, a .0 .1));
+        dated = λ h. b .dated (omega (arith, h .0), omega (arith, h .1, d .0 .1));
+      })
+      (λ e. later-beside t qs r (a .1) (d .1))
 
   -- What stays of the lower ranges is none of the upper ones.
   staying-others : (us qs : List (Range S)) → All (λ q. range-goes us q ≡ false) (reject (range-goes us) qs)
   staying-others us qs = all-selected (λ q. range-goes us q ≡ false) (λ q. not (range-goes us q)) (λ q h. not-true (range-goes us q) h) qs
 
-  module _ (t : ℕ) (ls : List (Range S)) (stamps : All (λ q. (1 ≤ q .stamp) × (q .stamp ≤ t)) ls) where
+  module _ (t : ℕ) (ls : List (Range S)) (stamps : All (Stamped t) ls) (dates : All Dated ls) where
     beside-other : (r q : Range S) → same-range r q ≡ false → range-before (later ls r) q ≡ false → range-before q (later ls r) ≡ true
     beside-other r q n =
-        let b = later-beside t ls r stamps in
+        let b = later-beside t ls r stamps dates in
         range-other (later ls r) q (rw (b .lo-same, b .hi-same) n)
 
     ranges-apart : (us qs : List (Range S)) → All (λ q. range-goes us q ≡ false) qs → Apart range-before (map (later ls) us) qs
@@ -99,8 +113,8 @@ module _ {S : Type 0} where
 
     later-before : (p q : Range S) → range-before p q ≡ range-before (later ls p) (later ls q)
     later-before p q =
-        let b = later-beside t ls p stamps in
-        let c = later-beside t ls q stamps in
+        let b = later-beside t ls p stamps dates in
+        let c = later-beside t ls q stamps dates in
         rw (b .lo-same, b .hi-same, c .lo-same, c .hi-same)
 
 earlier-most : (a b t : ℕ) → a ≤ t → b ≤ t → earlier a b ≤ t
@@ -118,7 +132,7 @@ all-stay f xs h = let q = select-never f h xs in omega (arith, length-select f x
 
 module _ {S A : Type 0} (t : ℕ) (u l : Level S A) (f : LevelFormed t u) (g : LevelFormed t l) where
   beside : (r : Range S) → Beside t r (later (l .ranges) r)
-  beside r = later-beside t (l .ranges) r (g .range-stamps)
+  beside r = later-beside t (l .ranges) r (g .range-stamps) (g .range-dates)
 
   -- What the points, and the ranges, of both levels have, those of the merged level have.
   merged-points-all : (P : Point S A → Type 0) → All P (u .points) → All P (l .points) → All P (merged u l .points)
@@ -136,9 +150,9 @@ module _ {S A : Type 0} (t : ℕ) (u l : Level S A) (f : LevelFormed t u) (g : L
   merged-ranges-ascend =
       merge-ascending range-before range-trans (map (later (l .ranges)) (u .ranges)) (reject (range-goes (u .ranges)) (l .ranges))
       (map-ascending (later (l .ranges)) range-before range-before
-      (λ p q. sym (later-before t (l .ranges) (g .range-stamps) p q)) (u .ranges) (f .ranges-ascend))
+      (λ p q. sym (later-before t (l .ranges) (g .range-stamps) (g .range-dates) p q)) (u .ranges) (f .ranges-ascend))
       (select-ascending range-before _ (l .ranges) (g .ranges-ascend))
-      (ranges-apart t (l .ranges) (g .range-stamps) (u .ranges) (reject (range-goes (u .ranges)) (l .ranges)) (staying-others (u .ranges) (l .ranges)))
+      (ranges-apart t (l .ranges) (g .range-stamps) (g .range-dates) (u .ranges) (reject (range-goes (u .ranges)) (l .ranges)) (staying-others (u .ranges) (l .ranges)))
 
   -- An empty level comes of two empty ones.
   merged-empty : held (merged u l) ≡ 0 → (held u ≡ 0) × (held l ≡ 0)
@@ -180,6 +194,7 @@ module _ {S A : Type 0} (t : ℕ) (u l : Level S A) (f : LevelFormed t u) (g : L
     point-stamps = merged-points-all _ (f .point-stamps) (g .point-stamps);
     range-stamps = merged-ranges-all _
         (all-weaken _ _ (λ r h. (omega (arith, beside r .no-earlier, h .0), beside r .in-time (h .1))) (u .ranges) (f .range-stamps)) (g .range-stamps);
+    range-dates = merged-ranges-all _ (all-weaken _ _ (λ r h. beside r .dated h) (u .ranges) (f .range-dates)) (g .range-dates);
     owed-clock = owed-early;
     owed-points = merged-points-all _
         (all-weaken _ _ (λ p h n. since-left (p .stamp) (h n)) (u .points) (f .owed-points))
@@ -200,6 +215,7 @@ settled-formed t l f = record {
   ranges-ascend = tt;
   point-stamps = all-select _ (λ p. is-put (p .entry)) (l .points) (f .point-stamps);
   range-stamps = tt;
+  range-dates = tt;
   owed-clock = omega arith;
   owed-points = all-selected _ (λ p. is-put (p .entry)) (λ p h n. absurd (true≢false (sym h ∙ n))) (l .points);
   owed-ranges = tt;
@@ -220,45 +236,50 @@ empty-formed t = record {
   ranges-ascend = tt;
   point-stamps = tt;
   range-stamps = tt;
+  range-dates = tt;
   owed-clock = omega arith;
   owed-points = tt;
   owed-ranges = tt;
   owed-empty = λ h. refl;
 }
 
--- A level of one record, of dockets that there are.
-pub single-formed : {S A : Type 0} (t : ℕ) → 1 ≤ t → (x : S) (w : Write A) → bad-docket (written w) ≡ false → LevelFormed t (single x t w)
+-- A level of one record, of dockets that there are and with a date that is allowed.
+pub single-formed : {S A : Type 0} (t : ℕ) → 1 ≤ t → (x : S) (w : Write A) → bad-docket (written w) ≡ false → bad-date t (written w) ≡ false
+    → LevelFormed t (single x t w)
 unfolding single
-single-formed t low x (put k a) h = record {
+single-formed t low x (put k a) h d = record {
   keys = (ltb-false 65535 k h, tt);
   points-ascend = (tt, tt);
   spans = tt;
   ranges-ascend = tt;
   point-stamps = ((low, omega arith), tt);
   range-stamps = tt;
+  range-dates = tt;
   owed-clock = omega arith;
   owed-points = ((λ n. absurd (true≢false n)), tt);
   owed-ranges = tt;
   owed-empty = λ h. refl;
 }
-single-formed t low x (delete k) h = record {
+single-formed t low x (delete k) h d = record {
   keys = (ltb-false 65535 k h, tt);
   points-ascend = (tt, tt);
   spans = tt;
   ranges-ascend = tt;
   point-stamps = ((low, omega arith), tt);
   range-stamps = tt;
+  range-dates = tt;
   owed-clock = omega arith;
   owed-points = ((λ n. (low, omega arith)), tt);
   owed-ranges = tt;
   owed-empty = λ e. absurd (omega arith);
 }
-single-formed t low x (delete-range lo hi) h = record {
+single-formed t low x (delete-range lo hi date) h d = record {
   keys = tt;
   points-ascend = tt;
   ranges-ascend = (tt, tt);
   point-stamps = tt;
   range-stamps = ((low, omega arith), tt);
+  range-dates = ((omega (arith, eqb-false date 0 (or-false-left (eqb date 0) (ltb t date) d)), ltb-false t date (or-false-right (eqb date 0) (ltb t date) d)), tt);
   spans = ((ltb-false hi lo (or-false-right (ltb 65535 hi) (ltb hi lo) h), ltb-false 65535 hi (or-false-left (ltb 65535 hi) (ltb hi lo) h)), tt);
   owed-clock = omega arith;
   owed-points = tt;
@@ -276,6 +297,7 @@ module _ {S A : Type 0} (t : ℕ) (l : Level S A) (f : LevelFormed t l) (z : l .
     ranges-ascend = f .ranges-ascend;
     point-stamps = all-select _ (λ p. not (g p)) (l .points) (f .point-stamps);
     range-stamps = f .range-stamps;
+    range-dates = f .range-dates;
     owed-clock = f .owed-clock;
     owed-points = all-select _ (λ p. not (g p)) (l .points) (f .owed-points);
     owed-ranges = f .owed-ranges;
@@ -293,6 +315,7 @@ module _ {S A : Type 0} (t : ℕ) (l : Level S A) (f : LevelFormed t l) (z : l .
         (λ p h. cond-elim (λ (q : Point S A). (1 ≤ q .stamp) × (q .stamp ≤ t)) (eqb (p .key) k) _ p (λ e. (low, omega arith)) (λ e. h))
         (l .points) (f .point-stamps));
     range-stamps = f .range-stamps;
+    range-dates = f .range-dates;
     owed-clock = f .owed-clock;
     owed-points = all-map (overwrite k a t) (λ p. is-put (p .entry) ≡ false → (1 ≤ l .owed) × (l .owed ≤ p .stamp)) (l .points)
         (all-weaken _ _

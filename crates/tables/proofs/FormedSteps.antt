@@ -19,9 +19,9 @@ use Rattle.lists.proofs.Counting.{sum-append, sum-map, sum-ones, count-sum}
 use Rattle.model.specs.Records.{Point, Level, State, empty, level}
 use Rattle.model.specs.Merge.{point-slots, range-slots, release, merged, settled, joined, point-goes}
 use Rattle.model.specs.Steps.{Write, put, delete, delete-range, single, unplaced, merge-state, merge-all, displaced, enter-at, enter, overwrite, set-points, wipe, act-deepest}
-use Rattle.model.specs.Calls.{Call, Outcome, written, bad-docket, bad-clock, timed, step, run}
+use Rattle.model.specs.Calls.{Call, Outcome, written, bad-docket, bad-clock, bad-date, timed, step, run}
 use Rattle.model.proofs.Keeps.{Kept, merge-all-keeps, step-keeps}
-use Rattle.model.proofs.StepView.{let-in-docket, let-in-time, StepView, turned-away, refused-7, passed, step-view, accepted-clock}
+use Rattle.model.proofs.StepView.{let-in-docket, let-in-time, let-in-date, StepView, turned-away, refused-7, passed, step-view, accepted-clock}
 use Rattle.model.proofs.Weights.{weigh-level, weight, merge-weight, enter-weight, act-weight}
 use Rattle.tables.specs.Sound.{every-slot-once}
 use Rattle.tables.specs.Formed.{LevelFormed, levels-slots, Formed}
@@ -102,15 +102,16 @@ module _ (t : ℕ) (p₀ : State ℕ ℕ) where
           ∙ a .owes-nothing
 
   module _ (low : 1 ≤ t) where
-    enter-at-at : (w : Write ℕ) (p : State ℕ ℕ) (free : List ℕ) → bad-docket (written w) ≡ false → ((g : ℕ → ℕ) → weight g (enter-at t w p free) ≡ weight g p)
+    enter-at-at : (w : Write ℕ) (p : State ℕ ℕ) (free : List ℕ) → bad-docket (written w) ≡ false → bad-date t (written w) ≡ false
+        → ((g : ℕ → ℕ) → weight g (enter-at t w p free) ≡ weight g p)
         → At t p₀ p → At t p₀ (enter-at t w p free)
     unfolding enter-at
-    enter-at-at w p [] ok same a = a
-    enter-at-at w p (x ∷ free) ok same a = record {
+    enter-at-at w p [] ok day same a = a
+    enter-at-at w p (x ∷ free) ok day same a = record {
       settings-ok = a .settings-ok;
       size = length-set (p .levels) 0 (merged (single x t w) (level 0 p)) ∙ a .size;
       levels-ok = all-set (LevelFormed t) (p .levels) 0 (merged (single x t w) (level 0 p)) (a .levels-ok)
-          (merged-formed t (single x t w) (level 0 p) (single-formed t low x w ok) (level-at 0 p a));
+          (merged-formed t (single x t w) (level 0 p) (single-formed t low x w ok day) (level-at 0 p a));
       owes-nothing =
           ap (λ (y : Level ℕ ℕ). y .owed)
           (getD-set-other (p .levels) 0 (p .settings .deepest) (merged (single x t w) (level 0 p)) empty (omega (arith, deep-at p a)))
@@ -118,10 +119,10 @@ module _ (t : ℕ) (p₀ : State ℕ ℕ) where
       slots = λ g. same g ∙ a .slots g;
     }
 
-    pub entered-at : (w : Write ℕ) (p : State ℕ ℕ) → bad-docket (written w) ≡ false → none (release (displaced t w p) (p .free)) ≡ false → At t p₀ p
+    pub entered-at : (w : Write ℕ) (p : State ℕ ℕ) → bad-docket (written w) ≡ false → bad-date t (written w) ≡ false → none (release (displaced t w p) (p .free)) ≡ false → At t p₀ p
         → At t p₀ (enter t w p)
     unfolding enter
-    entered-at w p ok room a = enter-at-at w p (release (displaced t w p) (p .free)) ok (λ g. enter-weight g t w p (omega (arith, a .size)) room) a
+    entered-at w p ok day room a = enter-at-at w p (release (displaced t w p) (p .free)) ok day (λ g. enter-weight g t w p (omega (arith, a .size)) room) a
 
     set-points-at : (ps : List (Point ℕ ℕ)) (p : State ℕ ℕ) (free : List ℕ)
         → LevelFormed t (record { points = ps; ranges = level (p .settings .deepest) p .ranges; owed = level (p .settings .deepest) p .owed })
@@ -150,16 +151,16 @@ module _ (t : ℕ) (p₀ : State ℕ ℕ) where
         let deepest = p .settings .deepest in
         set-points-at _ p _ (fewer-formed t (level deepest p) (level-at deepest p a) (a .owes-nothing) (point-goes (unplaced t (delete k))))
         (λ g. act-weight g t (delete k) p (omega (arith, a .size))) a
-    acted-at (delete-range lo hi) p a =
+    acted-at (delete-range lo hi date) p a =
         let deepest = p .settings .deepest in
-        set-points-at _ p _ (fewer-formed t (level deepest p) (level-at deepest p a) (a .owes-nothing) (point-goes (unplaced t (delete-range lo hi))))
-        (λ g. act-weight g t (delete-range lo hi) p (omega (arith, a .size))) a
+        set-points-at _ p _ (fewer-formed t (level deepest p) (level-at deepest p a) (a .owes-nothing) (point-goes (unplaced t (delete-range lo hi date))))
+        (λ g. act-weight g t (delete-range lo hi date) p (omega (arith, a .size))) a
 
-pub at-kept : (p₀ : State ℕ ℕ) (c : Call ℕ) → 1 ≤ c .clock → bad-docket (c .op) ≡ false → Kept (At (c .clock) p₀) c
-at-kept p₀ c low ok = record {
+pub at-kept : (p₀ : State ℕ ℕ) (c : Call ℕ) → 1 ≤ c .clock → bad-docket (c .op) ≡ false → bad-date (c .clock) (c .op) ≡ false → Kept (At (c .clock) p₀) c
+at-kept p₀ c low ok day = record {
   deep = λ p a. omega (arith, deep-at (c .clock) p₀ p a);
   merging = λ i p h a. merge-at (c .clock) p₀ i p h a;
-  entering = λ w p e room a. entered-at (c .clock) p₀ low w p (ap bad-docket (sym e) ∙ ok) room a;
+  entering = λ w p e room a. entered-at (c .clock) p₀ low w p (ap bad-docket (sym e) ∙ ok) (ap (bad-date (c .clock)) (sym e) ∙ day) room a;
   acting = λ w p e a. acted-at (c .clock) p₀ low w p a;
   timing = λ p a. record { settings-ok = a .settings-ok; size = a .size; levels-ok = a .levels-ok; owes-nothing = a .owes-nothing; slots = a .slots };
 }
@@ -173,6 +174,7 @@ later-formed t t′ l h f = record {
   ranges-ascend = f .ranges-ascend;
   point-stamps = all-weaken _ _ (λ p s. (s .0, omega (arith, s .1))) (l .points) (f .point-stamps);
   range-stamps = all-weaken _ _ (λ r s. (s .0, omega (arith, s .1))) (l .ranges) (f .range-stamps);
+  range-dates = f .range-dates;
   owed-clock = omega (arith, f .owed-clock);
   owed-points = f .owed-points;
   owed-ranges = f .owed-ranges;
@@ -231,7 +233,7 @@ step-formed n p c f = go (step p c) refl (step-view p c)
     go r e (passed a o) =
         let b = let-in-time (p .clock) c a in
         at-formed n (c .clock) p (r .state) f
-        (rw e at (step-keeps (At (c .clock) p) c (at-kept p c (timed-from-1 b) (let-in-docket (p .clock) c a)) p (formed-at n (c .clock) p (not-earlier b) f)))
+        (rw e at (step-keeps (At (c .clock) p) c (at-kept p c (timed-from-1 b) (let-in-docket (p .clock) c a) (let-in-date (p .clock) c a)) p (formed-at n (c .clock) p (not-earlier b) f)))
         (accepted-clock p c)
       where
         timed-from-1 : bad-clock (c .clock) (p .clock) ≡ false → 1 ≤ c .clock

@@ -20,6 +20,7 @@ use Rattle.tables.specs.Sound.{point-chain, range-chain, is-point, is-ra
 use Rattle.tables.specs.Placed.{read-point, read-range, read-level}
 use Rattle.tables.specs.Formed.{LevelFormed}
 use Rattle.tables.proofs.Slots.{hi-small}
+use Rattle.tables.proofs.Linked.{range-parts}
 
 module _ (e l : List ℕ) (i : ℕ) where
   abbrev points : List ℕ
@@ -165,14 +166,11 @@ module _ (e l : List ℕ) (i : ℕ) (w : Fits32 e) (f : LevelSound e l i) where
 
   range-kind : (s : ℕ) → is-range e s ≡ true → eqb (kind-of e s) 1 ≡ false
   range-kind s h =
-      let form = and-right (leb (lo-of e s) (hi-of e s)) (eqb (kind-of e s) 3 && eqb (tally-of e s) 0) h in
-      let three = eqb-true (kind-of e s) 3 (and-left (eqb (kind-of e s) 3) (eqb (tally-of e s) 0) form) in
+      let three : kind-of e s ≡ 3 = range-parts e s h .kind in
       ne-eqb (kind-of e s) 1 (omega arith)
 
   range-span : (s : ℕ) → is-range e s ≡ true → (lo-of e s ≤ hi-of e s) × (hi-of e s ≤ 65535)
-  range-span s h =
-      let ordered = and-left (leb (lo-of e s) (hi-of e s)) (eqb (kind-of e s) 3 && eqb (tally-of e s) 0) h in
-      (leb-true (lo-of e s) (hi-of e s) ordered, hi-small e w s)
+  range-span s h = (range-parts e s h .span, hi-small e w s)
 
   both-ranges : (ss : List ℕ) → All (λ s. is-range e s ≡ true) ss → All (λ s. owed-before e (level-row l i .owed) s ≡ true) ss
       → All (λ s. (1 ≤ level-row l i .owed) × (level-row l i .owed ≤ stamp-of e s)) ss
@@ -188,6 +186,7 @@ module _ (e l : List ℕ) (i : ℕ) (w : Fits32 e) (f : LevelSound e l i) where
     ranges-ascend = ranges-ascend e w 0 rs (f .range-order);
     point-stamps = all-map (read-point e) _ ps (all-weaken _ _ stamped ps (all-left _ ps rs (f .stamps)));
     range-stamps = all-map (read-range e) _ rs (all-weaken _ _ stamped rs (all-right _ ps rs (f .stamps)));
+    range-dates = all-map (read-range e) _ rs (all-weaken _ _ (λ s h. range-parts e s h .date) rs (f .range-forms));
     owed-clock = f .owed-clock;
     owed-points = all-map (read-point e) _ ps (all-weaken _ _ (λ s h q. owing s h (put-kind s (eqb (kind-of e s) 1) refl q)) ps (all-left _ ps rs (f .owes)));
     owed-ranges = all-map (read-range e) _ rs (both-ranges rs (f .range-forms) (all-right _ ps rs (f .owes)));

@@ -8,10 +8,12 @@ use native.Mathlib.Omega.{arith}
 use native.Mathlib.Decide.{ℕ-discrete}
 use lib.Dec.{eqb, leb}
 use lib.ListN.{length}
-use borrow.Author.Tests.{eqb-true, eq-eqb, ne-eqb}
+use borrow.Author.Tests.{eqb-true, leb-true, eq-eqb, ne-eqb}
 use Rattle.lists.specs.All.{All}
+use Rattle.settings.specs.Limits.{within}
+use Rattle.settings.proofs.Allowed.{within-bounds}
 use Rattle.lists.proofs.Bools.{and-left, and-right, and-intro, by-cases, or-second}
-use Rattle.tables.specs.Slots.{Slot, slot-at, next-of, kind-of, span-of, lo-of, hi-of, tally-of, stamp-of, top-slot, first-free, clock-of}
+use Rattle.tables.specs.Slots.{Slot, slot-at, next-of, kind-of, span-of, lo-of, hi-of, tally-of, date-of, stamp-of, top-slot, first-free, clock-of}
 use Rattle.tables.specs.Sound.{chain, is-free, is-point, is-range, top-blank}
 use Rattle.tables.specs.Placed.{Cell, free-cell, point-cell, range-cell, head, read-point, read-range, cell-slot}
 use Rattle.tables.proofs.Cells.{Chained}
@@ -50,6 +52,12 @@ linked-chained n e cell own h (s ∷ ss) c i r =
     let rest = linked-chained n e cell own (next-of e s) ss (c .2) (i .1) (r .1) in
     ((rw (own s) (i .0 .0), rw (own s) (i .0 .1), ap (slot-at e) (own s) ∙ r .0 ∙ ap (λ k. cell-slot k (cell s)) (sym (rest .1)), rest .0), own s ∙ sym (c .0))
 
+-- What the form of a range asks of its slot.
+pub record RangeForm (e : List ℕ) (s : ℕ) : Type 0 where
+  pub kind : kind-of e s ≡ 3
+  pub span : lo-of e s ≤ hi-of e s
+  pub date : (1 ≤ date-of e s) × (date-of e s ≤ stamp-of e s)
+
 -- Each form is the row of what it reads as.
 module _ (e : List ℕ) (s : ℕ) where
   rebuilt : (r : Slot) → slot-at e s .link ≡ r .link → span-of e s ≡ r .span → tally-of e s ≡ r .tally → stamp-of e s ≡ r .stamp → slot-at e s ≡ r
@@ -77,12 +85,19 @@ module _ (e : List ℕ) (s : ℕ) where
       let tally≡ : tally-of e s ≡ 0 = eqb-true (tally-of e s) 0 (and-right (eqb (kind-of e s) 2) (eqb (tally-of e s) 0) two) in
       rebuilt (cell-slot (next-of e s) (point-cell (read-point e s))) (rw k (omega arith)) (omega arith) (rw k tally≡) refl)
 
+  pub range-parts : is-range e s ≡ true → RangeForm e s
+  range-parts h =
+      let forms = and-right (leb (lo-of e s) (hi-of e s)) (eqb (kind-of e s) 3 && within 1 (date-of e s) (stamp-of e s)) h in
+      record {
+        kind = eqb-true (kind-of e s) 3 (and-left (eqb (kind-of e s) 3) (within 1 (date-of e s) (stamp-of e s)) forms);
+        span = leb-true (lo-of e s) (hi-of e s) (and-left (leb (lo-of e s) (hi-of e s)) _ h);
+        date = within-bounds 1 (date-of e s) (stamp-of e s) (and-right (eqb (kind-of e s) 3) (within 1 (date-of e s) (stamp-of e s)) forms);
+      }
+
   pub range-written : is-range e s ≡ true → slot-at e s ≡ cell-slot (next-of e s) (range-cell (read-range e s))
   range-written h =
-      let forms = and-right (leb (lo-of e s) (hi-of e s)) (eqb (kind-of e s) 3 && eqb (tally-of e s) 0) h in
-      let three : kind-of e s ≡ 3 = eqb-true (kind-of e s) 3 (and-left (eqb (kind-of e s) 3) (eqb (tally-of e s) 0) forms) in
-      rebuilt (cell-slot (next-of e s) (range-cell (read-range e s))) (omega arith) (omega arith)
-      (eqb-true (tally-of e s) 0 (and-right (eqb (kind-of e s) 3) (eqb (tally-of e s) 0) forms)) refl
+      let three : kind-of e s ≡ 3 = range-parts h .kind in
+      rebuilt (cell-slot (next-of e s) (range-cell (read-range e s))) (omega arith) (omega arith) refl refl
 
 -- The words of slot 0 beside the first free slot and the clock are zero.
 module _ (e : List ℕ) where

@@ -9,7 +9,7 @@ use lib.ListN.{length}
 use borrow.Author.Tests.{ne-eqb}
 use Rattle.lists.specs.All.{All}
 use Rattle.model.specs.Records.{Entry, value, tombstone, Point, Range}
-use Rattle.tables.specs.Slots.{Slot, slot-at, next-of, kind-of, lo-of, hi-of, tally-of, stamp-of}
+use Rattle.tables.specs.Slots.{Slot, slot-at, next-of, kind-of, lo-of, hi-of, tally-of, date-of, stamp-of}
 use Rattle.tables.specs.Sound.{chain}
 use Rattle.tables.specs.Placed.{Cell, free-cell, point-cell, range-cell, entry-kind, entry-tally, head, read-point, read-range, cell-slot}
 use Rattle.tables.proofs.Cells.{Chained, cell-slots}
@@ -57,8 +57,9 @@ module _ (n : ℕ) (e : List ℕ) (small : n < 65536) where
       let row : slot-at e (r .slot) ≡ cell-slot (head cs) (range-cell r) = h .2 in
       let lo≡ : lo-of e (r .slot) ≡ r .lo = ap (λ (x : Slot). x .span % 65536) row ∙ omega arith in
       let hi≡ : hi-of e (r .slot) ≡ r .hi = ap (λ (x : Slot). x .span / 65536) row ∙ omega arith in
+      let date≡ : date-of e (r .slot) ≡ r .date = ap (λ (x : Slot). x .tally) row in
       let stamp≡ : stamp-of e (r .slot) ≡ r .stamp = ap (λ (x : Slot). x .stamp) row in
-      rw (lo≡, hi≡, stamp≡)
+      rw (lo≡, hi≡, date≡, stamp≡)
 
   pub points-back : (ps : List (Point ℕ ℕ)) → All (λ p. p .key ≤ 65535) ps → Chained n e (map point-cell ps)
       → map (read-point e) (cell-slots (map point-cell ps)) ≡ ps

@@ -10,10 +10,10 @@ use borrow.Author.Tests.{eqb-true, ne-eqb}
 use Rattle.lists.specs.All.{All}
 use Rattle.lists.proofs.Bools.{and-right, or-second}
 use Rattle.lists.proofs.Tests.{all-weaken, all-append}
-use Rattle.tables.specs.Slots.{slot-at, next-of, kind-of, lo-of, hi-of, tally-of, free-slot}
+use Rattle.tables.specs.Slots.{slot-at, next-of, kind-of, lo-of, hi-of, tally-of, date-of, stamp-of, free-slot}
 use Rattle.tables.specs.Rows.{settings-of}
 use Rattle.tables.specs.Sound.{free-chain, point-chain, range-chain, is-free, is-point, is-range, table-refusal}
-use Rattle.tables.proofs.Linked.{free-written}
+use Rattle.tables.proofs.Linked.{free-written, range-parts}
 use Rattle.tables.proofs.SoundWords.{sound-facts}
 
 module _ (e l : List ℕ) (sound : table-refusal e l ≡ 0) where
@@ -29,14 +29,9 @@ module _ (e l : List ℕ) (sound : table-refusal e l ≡ 0) where
       let two = or-second (eqb (kind-of e s) 1) (eqb (kind-of e s) 2 && eqb (tally-of e s) 0) kinds (ne-eqb (kind-of e s) 1 n) in
       eqb-true (tally-of e s) 0 (and-right (eqb (kind-of e s) 2) (eqb (tally-of e s) 0) two)
 
-  range-blank : (s : ℕ) → is-range e s ≡ true → tally-of e s ≡ 0
-  range-blank s f =
-      let three = and-right (leb (lo-of e s) (hi-of e s)) (eqb (kind-of e s) 3 && eqb (tally-of e s) 0) f in
-      eqb-true (tally-of e s) 0 (and-right (eqb (kind-of e s) 3) (eqb (tally-of e s) 0) three)
+  -- Of the records only a put has a tally: a delete has 0 in its place, a range delete its date.
+  pub deletes-blank : (i : ℕ) → i ≤ settings-of l .deepest → All (λ s. kind-of e s ≢ 1 → tally-of e s ≡ 0) (point-chain e l i)
+  deletes-blank i h = all-weaken _ _ point-blank (point-chain e l i) (sound-facts e l sound .levels i h .point-forms)
 
-  -- Only a put has a tally.
-  pub deletes-blank : (i : ℕ) → i ≤ settings-of l .deepest → All (λ s. kind-of e s ≢ 1 → tally-of e s ≡ 0) (point-chain e l i ++ range-chain e l i)
-  deletes-blank i h =
-      let f = sound-facts e l sound .levels i h in
-      all-append _ (point-chain e l i) (range-chain e l i) (all-weaken _ _ point-blank (point-chain e l i) (f .point-forms))
-      (all-weaken _ _ (λ s r n. range-blank s r) (range-chain e l i) (f .range-forms))
+  pub ranges-dated : (i : ℕ) → i ≤ settings-of l .deepest → All (λ s. (1 ≤ date-of e s) × (date-of e s ≤ stamp-of e s)) (range-chain e l i)
+  ranges-dated i h = all-weaken _ _ (λ s r. range-parts e s r .date) (range-chain e l i) (sound-facts e l sound .levels i h .range-forms)

@@ -3,6 +3,7 @@ use mathlib.Core.Path.{_≡_, refl, ap}
 use mathlib.Core.Bool.{Bool, true, false, cond}
 use mathlib.Core.List.{List, [], _∷_, map}
 use Prim.Native.Nat.{ℕ}
+use lib.Dec.{eqb}
 use lib.ListN.{length-map}
 use Rattle.lists.proofs.Tests.{map-id}
 use Rattle.model.specs.Records.{Entry, value, tombstone, Point, Range, Level, State}
@@ -31,9 +32,9 @@ pub entry-aside : (b : Bool) (x y : ℕ) → map-entry no-tally (cond b (value x
 entry-aside true x y = refl
 entry-aside false x y = refl
 
--- The cell with the tally 0.
+-- The cell, with the tally 0 where it is a put's; a range's date stays.
 abbrev pub blank : Cell → Cell
-blank c = record { slot = c .slot; kind = c .kind; span = c .span; tally = 0; stamp = c .stamp }
+blank c = record { slot = c .slot; kind = c .kind; span = c .span; tally = cond (eqb (c .kind) 1) 0 (c .tally); stamp = c .stamp }
 
 pub head-blank : (cs : List Cell) → head (map blank cs) ≡ head cs
 head-blank [] = refl
@@ -44,7 +45,7 @@ kind-aside : (x : Entry ℕ) → entry-kind (map-entry no-tally x) ≡ entry-kin
 kind-aside (value a) = refl
 kind-aside tombstone = refl
 
-tally-aside : (x : Entry ℕ) → entry-tally (map-entry no-tally x) ≡ 0
+tally-aside : (x : Entry ℕ) → entry-tally (map-entry no-tally x) ≡ cond (eqb (entry-kind x) 1) 0 (entry-tally x)
 tally-aside (value a) = refl
 tally-aside tombstone = refl
 

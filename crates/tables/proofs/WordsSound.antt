@@ -9,9 +9,10 @@ use borrow.Author.Tests.{eqb-true, eq-eqb, ne-eqb, le-leb, ltb-true}
 use Rattle.lists.specs.All.{All, Ascending}
 use Rattle.lists.proofs.Bools.{and-left, and-right, and-intro, or-left, or-right, by-cases, or-second}
 use Rattle.lists.proofs.Tests.{all-weaken}
+use Rattle.settings.proofs.Allowed.{within-true}
 use Rattle.model.specs.Records.{Entry, value, tombstone, Point, Range}
 use Rattle.model.specs.Merge.{point-before, range-before}
-use Rattle.tables.specs.Slots.{Slot, slot-at, kind-of, span-of, lo-of, hi-of, tally-of, stamp-of, clock-of}
+use Rattle.tables.specs.Slots.{Slot, slot-at, kind-of, span-of, lo-of, hi-of, tally-of, date-of, stamp-of, clock-of}
 use Rattle.tables.specs.Sound.{is-free, is-point, is-range, order-key, ascend, is-stamped, owed-before}
 use Rattle.tables.specs.Placed.{Cell, free-cell, entry-kind, entry-tally, point-cell, range-cell, head, cell-slot}
 use Rattle.tables.proofs.Cells.{Chained, cell-slots}
@@ -60,13 +61,15 @@ module _ (n : ℕ) (e : List ℕ) (small : n < 65536) where
       kinds (value a) q t = rw q
       kinds tombstone q t = rw (q, t)
 
-  pub range-form : (r : Range ℕ) (next : ℕ) → next ≤ n → (r .lo ≤ r .hi) × (r .hi ≤ 65535) → slot-at e (r .slot) ≡ cell-slot next (range-cell r)
+  pub range-form : (r : Range ℕ) (next : ℕ) → next ≤ n → ((r .lo ≤ r .hi) × (r .hi ≤ 65535)) × ((1 ≤ r .date) × (r .date ≤ r .stamp)) → slot-at e (r .slot) ≡ cell-slot next (range-cell r)
       → is-range e (r .slot) ≡ true
   range-form r next b k row =
       let w1≡ : span-of e (r .slot) ≡ r .lo + 65536 * r .hi = cell-span e n next (range-cell r) small b row in
       let kind≡ = cell-kind e n next (range-cell r) small b row in
-      let tally≡ = cell-tally e n next (range-cell r) small b row in
-      rw (le-leb (lo-of e (r .slot)) (hi-of e (r .slot)) (omega (arith, k .0, k .1)), kind≡, tally≡)
+      let date≡ : date-of e (r .slot) ≡ r .date = cell-tally e n next (range-cell r) small b row in
+      let stamp≡ : stamp-of e (r .slot) ≡ r .stamp = cell-stamp e n next (range-cell r) small b row in
+      rw (le-leb (lo-of e (r .slot)) (hi-of e (r .slot)) (omega (arith, k .0 .0, k .0 .1)), kind≡, date≡, stamp≡)
+      (within-true 1 (r .date) (r .stamp) (k .1 .0) (k .1 .1))
 
   pub stamp-form : (c : Cell) (next : ℕ) → next ≤ n → (1 ≤ c .stamp) × (c .stamp ≤ clock-of e) → slot-at e (c .slot) ≡ cell-slot next c
       → is-stamped e (c .slot) ≡ true

@@ -11,6 +11,7 @@ use Rattle.model.specs.Merge.{point-before, range-before, point-slots, range-sl
 use Rattle.tables.specs.Sound.{every-slot-once}
 
 -- "Points … ascend strictly by docket; ranges ascend strictly by lo, then hi, with lo ≤ hi. … Stamps lie from 1 to the last clock. …
+-- Word 2 of kind 3 … from 1 to its stamp. …
 -- where a level holds a delete, its owed is not 0 and not later than the stamp of any delete there; it is 0 for an empty level."
 pub record LevelFormed {S A : Type 0} (clock : ℕ) (l : Level S A) : Type 0 where
   pub keys : All (λ p. p .key ≤ 65535) (l .points)
@@ -19,6 +20,7 @@ pub record LevelFormed {S A : Type 0} (clock : ℕ) (l : Level S A) : Type 0 whe
   pub ranges-ascend : Ascending range-before (l .ranges)
   pub point-stamps : All (λ p. (1 ≤ p .stamp) × (p .stamp ≤ clock)) (l .points)
   pub range-stamps : All (λ r. (1 ≤ r .stamp) × (r .stamp ≤ clock)) (l .ranges)
+  pub range-dates : All (λ r. (1 ≤ r .date) × (r .date ≤ r .stamp)) (l .ranges)
   pub owed-clock : l .owed ≤ clock
   pub owed-points : All (λ p. is-put (p .entry) ≡ false → (1 ≤ l .owed) × (l .owed ≤ p .stamp)) (l .points)
   pub owed-ranges : All (λ r. (1 ≤ l .owed) × (l .owed ≤ r .stamp)) (l .ranges)

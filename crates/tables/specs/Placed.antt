@@ -5,7 +5,7 @@ use Prim.Native.Nat.{ℕ, zero, suc}
 use lib.Dec.{eqb}
 use lib.ListN.{replicate}
 use Rattle.model.specs.Records.{Entry, value, tombstone, Point, Range, Level, State, held}
-use Rattle.tables.specs.Slots.{entry-length, Slot, set-slot, link-to, kind-of, span-from, lo-of, hi-of, tally-of, stamp-of, top-slot, clock-of}
+use Rattle.tables.specs.Slots.{entry-length, Slot, set-slot, link-to, kind-of, span-from, lo-of, hi-of, tally-of, date-of, stamp-of, top-slot, clock-of}
 use Rattle.tables.specs.Rows.{settings-of, Row, level-row, level-table}
 use Rattle.tables.specs.Sound.{free-chain, point-chain, range-chain}
 
@@ -19,7 +19,7 @@ read-point e s = record {
 }
 
 abbrev pub read-range : List ℕ → ℕ → Range ℕ
-read-range e s = record { slot = s; lo = lo-of e s; hi = hi-of e s; stamp = stamp-of e s }
+read-range e s = record { slot = s; lo = lo-of e s; hi = hi-of e s; date = date-of e s; stamp = stamp-of e s }
 
 abbrev pub read-level : List ℕ → List ℕ → ℕ → Level ℕ ℕ
 read-level e l i = record {
@@ -69,7 +69,7 @@ point-cell p = record {
 }
 
 abbrev pub range-cell : Range ℕ → Cell
-range-cell r = record { slot = r .slot; kind = 3; span = span-from (r .lo) (r .hi); tally = 0; stamp = r .stamp }
+range-cell r = record { slot = r .slot; kind = 3; span = span-from (r .lo) (r .hi); tally = r .date; stamp = r .stamp }
 
 abbrev pub head : List Cell → ℕ
 head [] = 0

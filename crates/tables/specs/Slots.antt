@@ -18,7 +18,7 @@ slots-of e = length e / slot-size - 1
 abbrev pub InTable : List ℕ → ℕ → Type 0
 InTable e s = slot-size * (s + 1) ≤ length e
 
--- Word 0 links a slot to the next and has its kind, word 1 spans its dockets; "word 2: the tally", "word 3: the stamp".
+-- Word 0 links a slot to the next and has its kind, word 1 spans its dockets; "word 2: the tally", and "of kind 3" the date; "word 3: the stamp".
 pub record Slot : Type 0 where
   pub link : ℕ
   pub span : ℕ
@@ -67,6 +67,10 @@ hi-of e s = span-of e s / 65536
 
 abbrev pub tally-of : List ℕ → ℕ → ℕ
 tally-of e s = slot-at e s .tally
+
+-- "Word 2 of kind 3 now holds s", the date of a range delete.
+abbrev pub date-of : List ℕ → ℕ → ℕ
+date-of e s = tally-of e s
 
 abbrev pub stamp-of : List ℕ → ℕ → ℕ
 stamp-of e s = slot-at e s .stamp

@@ -6,7 +6,7 @@ use lib.Dec.{leb, eqb}
 use lib.ListN.{length}
 use Rattle.settings.specs.Limits.{within, allowed}
 use Rattle.lists.specs.Lists.{none, every, count}
-use Rattle.tables.specs.Slots.{entry-length, slots-of, slot-at, next-of, kind-of, span-of, lo-of, hi-of, tally-of, stamp-of, first-free, clock-of}
+use Rattle.tables.specs.Slots.{entry-length, slots-of, slot-at, next-of, kind-of, span-of, lo-of, hi-of, tally-of, date-of, stamp-of, first-free, clock-of}
 use Rattle.tables.specs.Rows.{level-length, settings-of, level-row}
 
 -- "Records are chained by the next slot, and zero ends the chain": the slots of a chain, k of them at most.
@@ -31,13 +31,13 @@ range-chain e l i = chain-from e (level-row l i .ranges)
 abbrev pub is-free : List ℕ → ℕ → Bool
 is-free e s = eqb (kind-of e s) 0 && eqb (span-of e s) 0 && eqb (tally-of e s) 0 && eqb (stamp-of e s) 0
 
--- "Each chain has only its kinds, and the forms above": "lo = hi for kinds 1 and 2", tally "0 for kinds 2 and 3".
+-- "Each chain has only its kinds, and the forms above": "lo = hi for kinds 1 and 2", tally "0 for" kind 2.
 abbrev pub is-point : List ℕ → ℕ → Bool
 is-point e s = eqb (lo-of e s) (hi-of e s) && (eqb (kind-of e s) 1 || (eqb (kind-of e s) 2 && eqb (tally-of e s) 0))
 
--- "with lo ≤ hi"
+-- "with lo ≤ hi"; "Word 2 of kind 3 now holds s, from 1 to its stamp".
 abbrev pub is-range : List ℕ → ℕ → Bool
-is-range e s = leb (lo-of e s) (hi-of e s) && (eqb (kind-of e s) 3 && eqb (tally-of e s) 0)
+is-range e s = leb (lo-of e s) (hi-of e s) && (eqb (kind-of e s) 3 && within 1 (date-of e s) (stamp-of e s))
 
 -- "Points of a level ascend strictly by docket; ranges ascend strictly by lo, then hi": both by one key.
 abbrev pub order-key : List ℕ → ℕ → ℕ

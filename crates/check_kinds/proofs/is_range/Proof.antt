@@ -31,14 +31,26 @@ kind-of-requires c κs = search needs
 returns-2 : tie.Need-returns-2
 returns-2 c = rw (lo-upto-hi (c .before .before), unequal (c .before .kind-of .ensures) refl (c .if2 .taken))
 
-tally-of-requires : tie.Need-tally-of-requires
-tally-of-requires c κs = search needs
+date-of-requires : tie.Need-date-of-requires
+date-of-requires c κs = search needs
 
 returns-3 : tie.Need-returns-3
 returns-3 c =
-    let kind-read = c .before .before in
-    let is-range-delete = equal (kind-read .kind-of .ensures) refl (c .before .if2 .left) in
-    rw (lo-upto-hi (kind-read .before), is-range-delete, c .tally-of .ensures)
+    let date-read = c .before in
+    let kind-read = date-read .before .before in
+    let is-range-delete = equal (kind-read .kind-of .ensures) refl (date-read .before .if2 .left) in
+    rw (lo-upto-hi (kind-read .before), is-range-delete, above refl (date-read .date-of .ensures) (c .if3 .taken))
+
+stamp-of-requires : tie.Need-stamp-of-requires
+stamp-of-requires c κs = search needs
+
+returns-4 : tie.Need-returns-4
+returns-4 c =
+    let date-read = c .before .before in
+    let kind-read = date-read .before .before in
+    let is-range-delete = equal (kind-read .kind-of .ensures) refl (date-read .before .if2 .left) in
+    let from-one = upto refl (date-read .date-of .ensures) (c .before .if3 .left) in
+    rw (lo-upto-hi (kind-read .before), is-range-delete, from-one, date-read .date-of .ensures, c .stamp-of .ensures)
 
 pub is-range-spec : {M : Type 1} → statement M
 is-range-spec =
@@ -49,5 +61,7 @@ is-range-spec =
     returns
     kind-of-requires
     returns-2
-    tally-of-requires
-    returns-3)
+    date-of-requires
+    returns-3
+    stamp-of-requires
+    returns-4)
