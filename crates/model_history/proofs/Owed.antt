@@ -79,7 +79,7 @@ module _ {S A : Type 0} (deepest : ℕ) where
     unfolding single earliest
     single-owed x (put k a) = refl
     single-owed x (delete k) = by-cases (eqb t 0) (λ q. rw q (eqb-true t 0 q)) (λ q. rw q)
-    single-owed x (delete-range lo hi) = by-cases (eqb t 0) (λ q. rw q (eqb-true t 0 q)) (λ q. rw q)
+    single-owed x (delete-range lo hi date) = by-cases (eqb t 0) (λ q. rw q (eqb-true t 0 q)) (λ q. rw q)
 
     module _ (x : S) where
       abbrev new : Level S A
@@ -119,7 +119,7 @@ module _ {S A : Type 0} (deepest : ℕ) where
   unfolding act-deepest wipe
   acting t (put k a) s h o = pointing _ s (s .free) h o
   acting t (delete k) s h o = pointing _ s _ h o
-  acting t (delete-range lo hi) s h o = pointing _ s _ h o
+  acting t (delete-range lo hi date) s h o = pointing _ s _ h o
 
   module _ (some : 0 < deepest) where
     -- A write, with the merging that makes room for it.

@@ -19,7 +19,7 @@ module _ {A : Type 0} where
   abbrev pub delete-clock : ℕ → Write A → List ℕ
   delete-clock t (put k a) = []
   delete-clock t (delete k) = t ∷ []
-  delete-clock t (delete-range lo hi) = t ∷ []
+  delete-clock t (delete-range lo hi date) = t ∷ []
 
   -- The clocks of the deletes that came into each level since it was last emptied: a merge of level j empties it, and what came into it has come into the next.
   abbrev pub comes : (ℕ → List ℕ) → Event A → ℕ → List ℕ

@@ -14,3 +14,5 @@ pub const SETTINGS: u32 = 6;
 pub const FULL: u32 = 7;
 
 pub const LINE: u32 = 9;
+
+pub const DATE: u32 = 10;

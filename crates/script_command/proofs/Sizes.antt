@@ -15,7 +15,7 @@ use Rattle.model.specs.Calls.{Call}
 use Rattle.make.specs.Make.{Made, make-tables}
 use Rattle.make.proofs.Accepted.{accepting}
 use Rattle.script_lines.specs.declared.Command.{Command}
-use Rattle.script_lines.specs.declared.Command.the-variants.{Make, Put, Delete, DeleteRange, Flush, Tick, Lookup}
+use Rattle.script_lines.specs.declared.Command.the-variants.{Make, Put, Delete, DeleteRange, DeleteRangeDated, Flush, Tick, Lookup}
 use Rattle.script_lines.specs.declared.Line.{Line}
 use Rattle.script_lines.specs.declared.Line.the-variants.{Is, Unreadable}
 use Rattle.script_store.specs.declared.Size.{Size}
@@ -59,6 +59,7 @@ module _ (m : Memory) (small : Small m) where
   carried-out-small (Put t k v) = does-small _
   carried-out-small (Delete t k) = does-small _
   carried-out-small (DeleteRange t lo hi) = does-small _
+  carried-out-small (DeleteRangeDated t lo hi s) = does-small _
   carried-out-small (Flush t) = does-small _
   carried-out-small (Tick t) = does-small _
   carried-out-small (Lookup k) = finds-small k

@@ -28,10 +28,14 @@ pub record CaseTable : Type 0 where
   pub script : prints no-store ("M 6 3 2 2 9" ∷ "P 1 7 70" ∷ "P 1 8 80" ∷ "D 2 7" ∷ "P 3 9 90" ∷ "G 7" ∷ "P 4 7 71" ∷ "T 5" ∷ "G 7" ∷ "T 11" ∷ "F 10" ∷ [])
       ≡ three 0 0 0 ∷ three 0 0 0 ∷ three 0 1 0 ∷ three 0 0 0 ∷ three 0 1 1 ∷ three 0 0 0 ∷ three 0 0 0 ∷ three 0 1 0 ∷ three 0 1 71 ∷ three 0 1 1 ∷ three 5 0 0 ∷ []
   -- "any line but M before an accepted M, is 9"
-  pub before-a-make : prints no-store ("T 1" ∷ "G 7" ∷ "M 6 1 2 2 9" ∷ "P 1 7 70" ∷ "" ∷ []) ≡ three 9 0 0 ∷ three 9 0 0 ∷ three 6 0 0 ∷ three 9 0 0 ∷ three 9 0 0 ∷ []
+  pub before-a-make : prints no-store ("T 1" ∷ "G 7" ∷ "Y 1 0 9 1" ∷ "M 6 1 2 2 9" ∷ "P 1 7 70" ∷ "" ∷ []) ≡ three 9 0 0 ∷ three 9 0 0 ∷ three 9 0 0 ∷ three 6 0 0 ∷ three 9 0 0 ∷ three 9 0 0 ∷ []
   -- "N above 4,000 … is 9", "a refused one leaves the store there was"
   pub refused-makes : prints no-store ("M 6 3 2 2 9" ∷ "P 1 7 70" ∷ "M 4001 3 2 2 9" ∷ "M 4 7 2 2 9" ∷ "M 0 3 2 2 9" ∷ "G 7" ∷ [])
       ≡ three 0 0 0 ∷ three 0 0 0 ∷ three 9 0 0 ∷ three 6 0 0 ∷ three 1 0 0 ∷ three 0 1 70 ∷ []
   -- "A later M makes the store anew"
   pub made-anew : prints no-store ("M 6 3 2 2 9" ∷ "P 5 7 70" ∷ "M 4 2 2 2 4" ∷ "G 7" ∷ "P 1 7 71" ∷ "G 7" ∷ [])
       ≡ three 0 0 0 ∷ three 0 0 0 ∷ three 0 0 0 ∷ three 0 0 0 ∷ three 0 0 0 ∷ three 0 1 71 ∷ []
+  -- Request S-1: "covers a record only if its stamp is at most s", "10, s is 0 or after the call's clock"; without a date, "its own clock as s".
+  pub by-lay-date : prints no-store ("M 6 3 2 2 9" ∷ "P 3 5 50" ∷ "P 4 6 60" ∷ "Y 9 0 9 0" ∷ "Y 9 0 9 10" ∷ "Y 9 0 9 3" ∷ "G 5" ∷ "G 6" ∷ "F 9" ∷ "G 6" ∷ "P 9 7 70" ∷ "R 9 0 9" ∷ "G 6" ∷ "G 7" ∷ [])
+      ≡ three 0 0 0 ∷ three 0 0 0 ∷ three 0 1 0 ∷ three 10 0 0 ∷ three 10 0 0 ∷ three 0 0 0 ∷ three 0 0 0 ∷ three 0 1 60 ∷ three 0 1 1 ∷ three 0 1 60
+      ∷ three 0 0 0 ∷ three 0 0 1 ∷ three 0 0 0 ∷ three 0 0 0 ∷ []

@@ -5,7 +5,7 @@ use lib.Dec.{eqb}
 use Rattle.model.specs.Steps.{put, delete, delete-range}
 use Rattle.model.specs.Calls.{written, flush, tick}
 use Rattle.script_lines.specs.declared.Command.{Command}
-use Rattle.script_lines.specs.declared.Command.the-variants.{Make, Put, Delete, DeleteRange, Flush, Tick, Lookup}
+use Rattle.script_lines.specs.declared.Command.the-variants.{Make, Put, Delete, DeleteRange, DeleteRangeDated, Flush, Tick, Lookup}
 use Rattle.script_lines.specs.declared.Line.{Line}
 use Rattle.script_lines.specs.declared.Line.the-variants.{Is, Unreadable}
 use Rattle.script_store.specs.Memory.{Memory, Stepped, answers-alone, makes, does, finds}
@@ -15,15 +15,18 @@ is-make (Make n l t b d) = true
 is-make (Put t k v) = false
 is-make (Delete t k) = false
 is-make (DeleteRange t lo hi) = false
+is-make (DeleteRangeDated t lo hi s) = false
 is-make (Flush t) = false
 is-make (Tick t) = false
 is-make (Lookup k) = false
 
+-- Request S-1: "a range delete without a date has its own clock as s".
 abbrev pub carried-out : Command → Memory → Stepped
 carried-out (Make n l t b d) m = makes n (record { deepest = l; ratio = t; buffer = b; term = d }) m
 carried-out (Put t k v) m = does (record { clock = t; op = written (put k v) }) m
 carried-out (Delete t k) m = does (record { clock = t; op = written (delete k) }) m
-carried-out (DeleteRange t lo hi) m = does (record { clock = t; op = written (delete-range lo hi) }) m
+carried-out (DeleteRange t lo hi) m = does (record { clock = t; op = written (delete-range lo hi t) }) m
+carried-out (DeleteRangeDated t lo hi s) m = does (record { clock = t; op = written (delete-range lo hi s) }) m
 carried-out (Flush t) m = does (record { clock = t; op = flush }) m
 carried-out (Tick t) m = does (record { clock = t; op = tick }) m
 carried-out (Lookup k) m = finds k m

@@ -19,8 +19,8 @@ by-letter [] letter some is = absurd (some refl)
 by-letter (first ∷ rest) letter some is = ap (λ x. line-of (x ∷ rest)) is
 
 module _ (letter : ℕ) (rest : List ℕ) where
-  pub no-letter : (letter ≡ 77 → ⊥) → (letter ≡ 80 → ⊥) → (letter ≡ 68 → ⊥) → (letter ≡ 82 → ⊥) → (letter ≡ 70 → ⊥) → (letter ≡ 84 → ⊥) → (letter ≡ 71 → ⊥)
+  pub no-letter : (letter ≡ 77 → ⊥) → (letter ≡ 80 → ⊥) → (letter ≡ 68 → ⊥) → (letter ≡ 82 → ⊥) → (letter ≡ 89 → ⊥) → (letter ≡ 70 → ⊥) → (letter ≡ 84 → ⊥) → (letter ≡ 71 → ⊥)
       → line-of (letter ∷ rest) ≡ Unreadable
   unfolding line-of
-  no-letter m p d r f t g =
-      rw (ne-eqb letter 77 m, ne-eqb letter 80 p, ne-eqb letter 68 d, ne-eqb letter 82 r, ne-eqb letter 70 f, ne-eqb letter 84 t, ne-eqb letter 71 g)
+  no-letter m p d r y f t g =
+      rw (ne-eqb letter 77 m, ne-eqb letter 80 p, ne-eqb letter 68 d, ne-eqb letter 82 r, ne-eqb letter 89 y, ne-eqb letter 70 f, ne-eqb letter 84 t, ne-eqb letter 71 g)

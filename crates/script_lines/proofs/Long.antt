@@ -10,7 +10,7 @@ use lib.Dec.{eqb, leb}
 use lib.ListN.{length, drop, length-drop}
 use Rattle.lists.proofs.Bools.{and-left, and-right, cond-elim}
 use Rattle.script_lines.specs.declared.Line.{Line}
-use Rattle.script_lines.specs.declared.Command.the-variants.{Make, Put, Delete, DeleteRange, Flush, Tick, Lookup}
+use Rattle.script_lines.specs.declared.Command.the-variants.{Make, Put, Delete, DeleteRange, DeleteRangeDated, Flush, Tick, Lookup}
 use Rattle.script_lines.specs.declared.Line.the-variants.{Unreadable}
 use Rattle.script_fields.specs.Numbers.{digits, decimal, is-number}
 use Rattle.script_lines.specs.Lines.{Taking, fields, line-of}
@@ -43,6 +43,7 @@ long-unreadable (letter ∷ rest) long =
     let put : NoForm (fields 3 Put rest) = long-fields 3 Put rest (omega (arith, long)) in
     let delete : NoForm (fields 2 Delete rest) = long-fields 2 Delete rest (omega (arith, long)) in
     let delete-range : NoForm (fields 3 DeleteRange rest) = long-fields 3 DeleteRange rest (omega (arith, long)) in
+    let delete-range-dated : NoForm (fields 4 DeleteRangeDated rest) = long-fields 4 DeleteRangeDated rest (omega (arith, long)) in
     let flush : NoForm (fields 1 Flush rest) = long-fields 1 Flush rest (omega (arith, long)) in
     let tick : NoForm (fields 1 Tick rest) = long-fields 1 Tick rest (omega (arith, long)) in
     let lookup : NoForm (fields 1 Lookup rest) = long-fields 1 Lookup rest (omega (arith, long)) in
@@ -50,6 +51,7 @@ long-unreadable (letter ∷ rest) long =
     (either letter (code "P") _ _ put
     (either letter (code "D") _ _ delete
     (either letter (code "R") _ _ delete-range
+    (either letter (code "Y") _ _ delete-range-dated
     (either letter (code "F") _ _ flush
     (either letter (code "T") _ _ tick
-    (either letter (code "G") _ _ lookup refl))))))
+    (either letter (code "G") _ _ lookup refl)))))))

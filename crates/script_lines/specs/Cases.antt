@@ -5,7 +5,7 @@ use Prim.Native.Char.{code}
 use Prim.Native.Nat.{ℕ}
 use Prim.Native.String as string
 use Rattle.script_lines.specs.declared.Line.{Line}
-use Rattle.script_lines.specs.declared.Command.the-variants.{Make, Put, Delete, DeleteRange, Flush, Tick, Lookup}
+use Rattle.script_lines.specs.declared.Command.the-variants.{Make, Put, Delete, DeleteRange, DeleteRangeDated, Flush, Tick, Lookup}
 use Rattle.script_lines.specs.declared.Line.the-variants.{Is, Unreadable}
 use Rattle.script_lines.specs.Lines.{line-of}
 
@@ -26,6 +26,8 @@ pub record FormTable : Type 0 where
   pub flush : says "F 10" (Is (Flush 10))
   pub tick : says "T 11" (Is (Tick 11))
   pub lookup : says "G 7" (Is (Lookup 7))
+  -- Request S-1: "The script line is `Y t lo hi s`."
+  pub delete-range-dated : says "Y 3 5 65535 2" (Is (DeleteRangeDated 3 5 65535 2))
   -- "numbers from 0 to 4,294,967,295 in one to ten digits"
   pub zero-is-a-number : says "G 0" (Is (Lookup 0))
   pub largest : says "G 4294967295" (Is (Lookup 4294967295))
@@ -66,6 +68,8 @@ pub record UnreadableTable : Type 0 where
   pub delete-too-many : says "D 2 7 1" Unreadable
   pub delete-range-too-few : says "R 3 5" Unreadable
   pub delete-range-too-many : says "R 3 5 6 7" Unreadable
+  pub delete-range-dated-too-few : says "Y 3 5 6" Unreadable
+  pub delete-range-dated-too-many : says "Y 3 5 6 2 1" Unreadable
   pub flush-too-few : says "F" Unreadable
   pub flush-too-many : says "F 10 1" Unreadable
   pub tick-too-few : says "T" Unreadable

@@ -7,7 +7,7 @@ use lib.Dec.{eqb}
 use lib.ListN.{length, drop}
 use Rattle.script_fields.specs.Numbers.{digits, decimal, is-number}
 use Rattle.script_lines.specs.declared.Command.{Command}
-use Rattle.script_lines.specs.declared.Command.the-variants.{Make, Put, Delete, DeleteRange, Flush, Tick, Lookup}
+use Rattle.script_lines.specs.declared.Command.the-variants.{Make, Put, Delete, DeleteRange, DeleteRangeDated, Flush, Tick, Lookup}
 use Rattle.script_lines.specs.declared.Line.{Line}
 use Rattle.script_lines.specs.declared.Line.the-variants.{Is, Unreadable}
 
@@ -26,7 +26,7 @@ fields (suc n) command (byte ∷ rest) =
     cond (eqb byte (code " ") && is-number ds) (fields n (command (decimal 0 ds)) (drop (length ds) rest)) Unreadable
 
 -- "`M N L T B D` makes, `P t k v` puts, `D t k` deletes, `R t lo hi`, `F t` flushes, `T t` ticks, `G k` looks up";
--- and else "not a line of the forms below".
+-- request S-1: "The script line is `Y t lo hi s`"; and else "not a line of the forms below".
 unfoldable pub line-of : List ℕ → Line
 line-of [] = Unreadable
 line-of (letter ∷ rest) =
@@ -34,7 +34,8 @@ line-of (letter ∷ rest) =
     (cond (eqb letter (code "P")) (fields 3 Put rest)
     (cond (eqb letter (code "D")) (fields 2 Delete rest)
     (cond (eqb letter (code "R")) (fields 3 DeleteRange rest)
+    (cond (eqb letter (code "Y")) (fields 4 DeleteRangeDated rest)
     (cond (eqb letter (code "F")) (fields 1 Flush rest)
     (cond (eqb letter (code "T")) (fields 1 Tick rest)
     (cond (eqb letter (code "G")) (fields 1 Lookup rest)
-    Unreadable))))))
+    Unreadable)))))))

@@ -4,7 +4,7 @@ use script_fields::read_field;
 use script_fields::read_last;
 ghost use mathlib.Core.Path.{_≡_};
 ghost use lib.ListN.{drop};
-ghost use Rattle.script_lines.specs.declared.Command.the-variants.{Make, Put, Delete, DeleteRange, Flush, Tick, Lookup};
+ghost use Rattle.script_lines.specs.declared.Command.the-variants.{Make, Put, Delete, DeleteRange, DeleteRangeDated, Flush, Tick, Lookup};
 ghost use Rattle.script_lines.specs.Lines.{fields, line-of};
 
 // What a line asks for.
@@ -17,6 +17,8 @@ pub enum Command {
     Delete(u32, u32),
     // The clock, the first key and the last.
     DeleteRange(u32, u32, u32),
+    // The clock, the first key, the last and the date.
+    DeleteRangeDated(u32, u32, u32, u32),
     // The clock.
     Flush(u32),
     // The clock.
@@ -43,6 +45,7 @@ pub fn read_line(text: &[u8]) -> Line
         b'P' => read_put(text),
         b'D' => read_delete(text),
         b'R' => read_delete_range(text),
+        b'Y' => read_delete_range_dated(text),
         b'F' => read_flush(text),
         b'T' => read_tick(text),
         b'G' => read_lookup(text),
@@ -115,6 +118,25 @@ fn read_delete_range(text: &[u8]) -> Line
         return Line::Unreadable;
     };
     Line::Is(Command::DeleteRange(clock, lo, hi))
+}
+
+// `Y t lo hi s`
+fn read_delete_range_dated(text: &[u8]) -> Line
+    ensures { λ r. ⌜ r ≡ fields 4 DeleteRangeDated (drop 1 (now (text .entry))) ⌝ }
+{
+    let Field::Number(clock, at) = read_field(text, 1) else {
+        return Line::Unreadable;
+    };
+    let Field::Number(lo, at) = read_field(text, at) else {
+        return Line::Unreadable;
+    };
+    let Field::Number(hi, at) = read_field(text, at) else {
+        return Line::Unreadable;
+    };
+    let Field::Number(date, _) = read_last(text, at) else {
+        return Line::Unreadable;
+    };
+    Line::Is(Command::DeleteRangeDated(clock, lo, hi, date))
 }
 
 // `F t`

@@ -73,6 +73,12 @@ run-call-requires-5 c κs = search needs
 enum-known-command-7 : tie.Need-enum-known-command-7
 enum-known-command-7 c = search needs
 
+run-call-requires-6 : tie.Need-run-call-requires-6
+run-call-requires-6 c κs = search needs
+
+enum-known-command-8 : tie.Need-enum-known-command-8
+enum-known-command-8 c = search needs
+
 run-lookup-requires : tie.Need-run-lookup-requires
 run-lookup-requires c κs = search needs
 
@@ -156,8 +162,20 @@ same-length-14 c = search needs
 
 returns-8 : tie.Need-returns-8
 returns-8 c =
+    let done = c .before .before .before .before in
+    let arm = done .before .before .before .before in
+    on-time (arm .before .before) (arm .command7 .given .1) (done .run-call6 .ensures)
+
+same-length-15 : tie.Need-same-length-15
+same-length-15 c = search needs
+
+same-length-16 : tie.Need-same-length-16
+same-length-16 c = search needs
+
+returns-9 : tie.Need-returns-9
+returns-9 c =
     let arm = c .before .before .before .before in
-    on-time (arm .before .before) (arm .command7 .given .1) (c .run-lookup .ensures)
+    on-time (arm .before .before) (arm .command8 .given .1) (c .run-lookup .ensures)
 
 pub run-command-spec : {M : Type 1} → statement M
 run-command-spec =
@@ -179,6 +197,8 @@ run-command-spec =
     enum-known-command-6
     run-call-requires-5
     enum-known-command-7
+    run-call-requires-6
+    enum-known-command-8
     run-lookup-requires
     same-length
     same-length-2
@@ -200,4 +220,7 @@ run-command-spec =
     returns-7
     same-length-13
     same-length-14
-    returns-8)
+    returns-8
+    same-length-15
+    same-length-16
+    returns-9)

@@ -36,6 +36,9 @@ read-delete-requires c κs = search needs
 read-delete-range-requires : tie.Need-read-delete-range-requires
 read-delete-range-requires c κs = search needs
 
+read-delete-range-dated-requires : tie.Need-read-delete-range-dated-requires
+read-delete-range-dated-requires c κs = search needs
+
 read-flush-requires : tie.Need-read-flush-requires
 read-flush-requires c κs = search needs
 
@@ -63,24 +66,29 @@ returns-5 c = c .read-delete-range .ensures ∙ sym (lettered (c .before .before
 
 returns-6 : tie.Need-returns-6
 unfolding line-of
-returns-6 c = c .read-flush .ensures ∙ sym (lettered (c .before .before) _ (c .before .match .keys5))
+returns-6 c = c .read-delete-range-dated .ensures ∙ sym (lettered (c .before .before) _ (c .before .match .keys5))
 
 returns-7 : tie.Need-returns-7
 unfolding line-of
-returns-7 c = c .read-tick .ensures ∙ sym (lettered (c .before .before) _ (c .before .match .keys6))
+returns-7 c = c .read-flush .ensures ∙ sym (lettered (c .before .before) _ (c .before .match .keys6))
 
 returns-8 : tie.Need-returns-8
 unfolding line-of
-returns-8 c = c .read-lookup .ensures ∙ sym (lettered (c .before .before) _ (c .before .match .keys7))
+returns-8 c = c .read-tick .ensures ∙ sym (lettered (c .before .before) _ (c .before .match .keys7))
 
 returns-9 : tie.Need-returns-9
-returns-9 c =
+unfolding line-of
+returns-9 c = c .read-lookup .ensures ∙ sym (lettered (c .before .before) _ (c .before .match .keys8))
+
+returns-10 : tie.Need-returns-10
+returns-10 c =
     let others = c .match .rest in
-    let first-five = others .0 .0 in
-    let first-three = first-five .0 .0 in
+    let first-six = others .0 .0 in
+    let first-four = first-six .0 .0 in
+    let first-two = first-four .0 .0 in
     sym
     (lettered (c .before) _ refl
-    ∙ no-letter _ _ (first-three .0 .0 .1) (first-three .0 .1) (first-three .1) (first-five .0 .1) (first-five .1) (others .0 .1) (others .1))
+    ∙ no-letter _ _ (first-two .0 .1) (first-two .1) (first-four .0 .1) (first-four .1) (first-six .0 .1) (first-six .1) (others .0 .1) (others .1))
 
 pub read-line-spec : {M : Type 1} → statement M
 read-line-spec =
@@ -92,6 +100,7 @@ read-line-spec =
     read-put-requires
     read-delete-requires
     read-delete-range-requires
+    read-delete-range-dated-requires
     read-flush-requires
     read-tick-requires
     read-lookup-requires
@@ -102,4 +111,5 @@ read-line-spec =
     returns-6
     returns-7
     returns-8
-    returns-9)
+    returns-9
+    returns-10)
