@@ -58,6 +58,7 @@ near-misses = record {
   scan-no-rows = refl;
   scan-one-row = refl;
   scan-all = refl;
+  merge-reveals-the-later = refl;
 }
 
 -- All tallies of a state, added.

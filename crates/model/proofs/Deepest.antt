@@ -12,12 +12,12 @@ use borrow.Author.Tests.{eq-eqb}
 use Rattle.settings.specs.declared.Settings.{Settings}
 use Rattle.lists.specs.Lists.{sum}
 use Rattle.lists.proofs.Loops.{iterate-holds}
-use Rattle.model.specs.Records.{Level, State, empty, level, held, held-all}
+use Rattle.model.specs.Records.{Point, Level, State, empty, level, held, held-all}
 use Rattle.model.specs.Merge.{merged, settled, joined}
-use Rattle.model.specs.Steps.{Work, begin, merge-state, merge-level, merge-all}
+use Rattle.model.specs.Steps.{Work, begin, merge-state, merge-level, merge-all, set-points}
 use Rattle.model.specs.Calls.{tick}
 use Rattle.model.specs.Lookup.{lookup}
-use Rattle.model.proofs.Form.{Formed, formed-kept}
+use Rattle.model.proofs.Form.{Ordered, Formed, formed-kept, level-ordered}
 use Rattle.model.proofs.Settle.{merge-empties, merge-other}
 use Rattle.model.proofs.Lookups.{lookup-empty}
 
@@ -37,6 +37,12 @@ module _ {S A : Type 0} where
 
   pub only-set : (n : ℕ) (l v : Level S A) → set (only n l) n v ≡ only n v
   only-set n l v = set-at (replicate n empty) l [] v n (length-replicate n empty)
+
+  -- Where only level L holds records, it alone has others after its points were set.
+  pub set-points-only : (s : State S A) (n : ℕ) (l : Level S A) (ps : List (Point S A)) (free : List S) → s .settings .deepest ≡ n → s .levels ≡ only n l
+      → set-points (s .settings .deepest) ps s free .levels ≡ only n (record { points = ps; ranges = l .ranges; owed = l .owed })
+  unfolding set-points
+  set-points-only s n l ps free deep levels = rw (deep, levels, only-level n l) (only-set n l (record { points = ps; ranges = l .ranges; owed = l .owed }))
 
   pub lookup-only : (n : ℕ) (l : Level S A) (k : ℕ) → lookup (only n l) k ≡ lookup (l ∷ []) k
   lookup-only zero l k = refl
@@ -102,3 +108,11 @@ module _ {S A : Type 0} where
         levels = only-from n (m .levels) (d .formed .size ∙ ap (λ (x : Settings). suc (x .deepest)) (d .same)) (λ i p. d .empties i (omega arith))
             ∙ ap (only n) (ap (λ j. level j m) (sym zero-plus) ∙ b .1);
       }
+
+  -- The level that is left is in order.
+  pub drained-ordered : (s : State S A) (f : Formed s) → Ordered (settled (merge-all-drained s f .source))
+  drained-ordered s f =
+      let n : ℕ = s .settings .deepest in
+      let d : Drained s (merge-all s .state) = merge-all-drained s f in
+      let here : level n (merge-all s .state) ≡ settled (d .source) = ap (λ ls. getD ls n empty) (d .levels) ∙ only-level n (settled (d .source)) in
+      rw here at (level-ordered n (merge-all s .state) (d .formed))

@@ -19,7 +19,7 @@ use Rattle.model.specs.Calls.{written, Call, Outcome, refusing, count-wr
 use Rattle.model.specs.PlainMap.{get, map-run, map-refusals, no-rows}
 use Rattle.model.specs.Erasure.{retally, accepted, Erased}
 use Rattle.model.specs.Renaming.{map-state, map-call}
-use Rattle.model.proofs.Slots.{Whole, slots, run-whole, fresh-whole}
+use Rattle.model.proofs.Slots.{Whole}
 use Rattle.model.proofs.StepView.{worked, accepted-outcome, StepView, turned-away, refused-7, passed, early-other, step-view, accepted-ends}
 use Rattle.model.proofs.Settle.{pass-leaves-none-due}
 use Rattle.model.proofs.Numbers.{purged-sum, most-merges, merges-most, prepared-settings}
@@ -92,8 +92,12 @@ module _ {S A : Type 0} (settings : Settings) (ok : allowed settings ≡ true) (
   abbrev made : State S A
   made = run (fresh settings slots) cs
 
+  -- The plain map beside it.
+  alike : Alike (length slots) made (map-run (length slots) no-rows cs)
+  alike = run-alike (length slots) (fresh settings slots) no-rows cs (fresh-alike settings slots ok)
+
   whole : Whole (length slots) made
-  whole = run-whole (length slots) (fresh settings slots) cs (fresh-whole settings slots ok)
+  whole = alike .whole
 
   positive : 0 < made .settings .deepest
   positive = omega (arith, whole .formed .deep)
@@ -101,16 +105,16 @@ module _ {S A : Type 0} (settings : Settings) (ok : allowed settings ≡ true) (
   -- 'Full' comes only when every slot holds a different live docket and the put's is not among them, and then always.
   pub full-exactly : (t k : ℕ) (a : A)
       → (out-of-slots t (written (put k a)) (run (fresh settings slots) cs) ≡ true) ↔ SlotsLive (length slots) k (merge-all (run (fresh settings slots) cs) .state)
-  full-exactly t k a = (full-live (length slots) made whole t k a, λ live. live-full (length slots) made whole k live t a)
+  full-exactly t k a = (full-live (length slots) made whole (alike .timely .stamps) t k a, λ live. live-full (length slots) made whole k live t a)
 
   -- A delete is never refused for lack of a slot.
   pub delete-never-full : (t k : ℕ) → out-of-slots t (written (delete k)) (run (fresh settings slots) cs) ≡ false
   unfolding no-slot
   delete-never-full t k = refl
 
-  pub delete-range-never-full : (t lo hi : ℕ) → out-of-slots t (written (delete-range lo hi date)) (run (fresh settings slots) cs) ≡ false
+  pub delete-range-never-full : (t lo hi date : ℕ) → out-of-slots t (written (delete-range lo hi date)) (run (fresh settings slots) cs) ≡ false
   unfolding no-slot
-  delete-range-never-full t lo hi = refl
+  delete-range-never-full t lo hi date = refl
 
   -- Refusal 7: "tables stay merged, clock as before".
   pub refused-7-merges : (c : Call A) → step (run (fresh settings slots) cs) c .answer .refusal ≡ 7
@@ -127,9 +131,6 @@ module _ {S A : Type 0} (settings : Settings) (ok : allowed settings ≡ true) (
       go r (passed a f) e = absurd (omega arith)
 
   -- DEMAND 2: from a fresh store, lookups and scans answer as a map does, and calls are refused as by a map of as many places.
-  alike : Alike (length slots) made (map-run (length slots) no-rows cs)
-  alike = run-alike (length slots) (fresh settings slots) no-rows cs (fresh-alike settings slots ok)
-
   pub lookups-as-map : (k : ℕ) → lookup (run (fresh settings slots) cs .levels) k ≡ get (map-run (length slots) no-rows cs .rows) k
   lookups-as-map k = sym (alike .gets k)
 

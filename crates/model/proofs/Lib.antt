@@ -12,10 +12,14 @@ pub mod Weights
 pub mod Slots
 pub mod Numbers
 pub mod Counted
-pub mod Lookups
+pub mod Unions
 pub mod Found
+pub mod Levels
+pub mod Lookups
+pub mod Aged
 pub mod Deepest
 pub mod LookupSteps
+pub mod AgedSteps
 pub mod Passing
 pub mod Full
 pub mod Puts

@@ -13,7 +13,7 @@ use Rattle.lists.proofs.Tests.{all-select}
 use Rattle.lists.proofs.Merges.{all-merge, any-merge}
 use Rattle.model.specs.Records.{Entry, value, tombstone, Point, Level, is-put}
 use Rattle.model.specs.Merge.{covered, names, point-before, point-goes, earlier, merged, settled, joined}
-use Rattle.model.proofs.Lookups.{covered-merged}
+use Rattle.model.proofs.Unions.{covered-merged}
 
 pub data Mark (A : Type 0) : Type 0 where
   plain : A → Mark A

@@ -5,8 +5,8 @@ use mathlib.Core.List.{List, [], _∷_, _++_, map}
 use Prim.Native.Nat.{ℕ, _≤_}
 use Rattle.settings.specs.declared.Settings.{Settings}
 use Rattle.settings.specs.Limits.{limit}
-use Rattle.model.specs.Records.{State, slotless}
-use Rattle.model.specs.Steps.{put, delete, delete-range}
+use Rattle.model.specs.Records.{value, tombstone, State, empty, slotless}
+use Rattle.model.specs.Steps.{put, delete, delete-range, merge-state}
 use Rattle.model.specs.Lookup.{absent, found, scan, lookup}
 use Rattle.model.specs.Calls.{written, flush, tick, Call, Answer, refusing, step, run, answers}
 
@@ -93,6 +93,18 @@ deep = store 6 (settings 2 2 1 4)
 abbrev pub sunk : List (Call ℕ)
 sunk = P 1 5 50 ∷ P 1 6 60 ∷ P 1 7 70 ∷ []
 
+-- Sound, though no list of calls leads here: a put deeper than a delete of its docket, and later than it, under a range of the date of that delete.
+abbrev pub turned : State (Unit {0}) ℕ
+turned = record {
+  settings = settings 3 2 2 9;
+  clock = 7;
+  free = tt ∷ tt ∷ tt ∷ [];
+  levels =
+      record { points = []; ranges = record { slot = tt; lo = 1; hi = 1; date = 1; stamp = 1 } ∷ []; owed = 1 }
+      ∷ record { points = record { slot = tt; key = 1; entry = tombstone; stamp = 1 } ∷ []; ranges = []; owed = 1 }
+      ∷ record { points = record { slot = tt; key = 1; entry = value 10; stamp = 7 } ∷ []; ranges = []; owed = 0 } ∷ empty ∷ [];
+}
+
 -- What tells a store from its near misses, and the edges that carry no ●.
 pub record NearMissTable : Type 0 where
   -- "A put over a delete hides it": at 6 the older tally below goes all the same.
@@ -126,3 +138,5 @@ pub record NearMissTable : Type 0 where
   pub scan-all :
       scan (lookup (run deep sunk .levels)) 6 6 1
       ≡ record { rows = record { key = 6; tally = 60; stamp = 1 } ∷ []; count = 1; more = false; next = 0 }
+  -- A merge changes no lookup where what lies deeper is older; else it may, since the range takes away the delete and not the put.
+  pub merge-reveals-the-later : map (λ (s : State (Unit {0}) ℕ). lookup (s .levels) 1) (turned ∷ merge-state 0 turned ∷ []) ≡ absent ∷ found 10 7 ∷ []
