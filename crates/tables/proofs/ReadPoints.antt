@@ -6,7 +6,7 @@ use Prim.Native.Nat.{ℕ, zero, suc, _+_, _≤_}
 use native.Mathlib.Omega.{arith}
 use native.Mathlib.Decide.{ℕ-discrete}
 use lib.Dec.{eqb}
-use borrow.Author.Tests.{eqb-true, eqb-false, eq-eqb}
+use borrow.Author.Tests.{eqb-true, eqb-false, eq-eqb, lt-leb}
 use Rattle.lists.specs.Lists.{count}
 use Rattle.lists.specs.All.{All}
 use Rattle.lists.proofs.Bools.{by-cases}
@@ -14,7 +14,7 @@ use Rattle.lists.proofs.Tests.{all-append, append-map}
 use Rattle.model.specs.Records.{Level, is-put, Point}
 use Rattle.model.specs.Merge.{point-slots}
 use Rattle.model.specs.Lookup as model
-use Rattle.model.specs.Lookup.{absent, reads, find}
+use Rattle.model.specs.Lookup.{absent, judged, find}
 use Rattle.model.specs.Live.{all-points}
 use Rattle.model.proofs.Full.{AllPuts}
 use Rattle.model.proofs.Puts.{PutsOnly}
@@ -63,16 +63,16 @@ module _ (e : List ℕ) where
   put-kinds (s ∷ ss) a = (put-kind s (a .0), put-kinds ss (a .1))
 
   -- A slot that alone has its docket decides it.
-  pub find-own : (i : ℕ) (ss : List ℕ) → kind-of e i ≡ 1 → 1 ≤ times i ss → count (λ s. eqb (lo-of e s) (lo-of e i)) ss ≤ 1
-      → find (map (read-point e) ss) (lo-of e i) absent ≡ model.found (tally-of e i) (stamp-of e i)
+  pub find-own : (i : ℕ) (ss : List ℕ) → kind-of e i ≡ 1 → 1 ≤ stamp-of e i → 1 ≤ times i ss → count (λ s. eqb (lo-of e s) (lo-of e i)) ss ≤ 1
+      → find 0 (map (read-point e) ss) (lo-of e i) absent ≡ model.found (tally-of e i) (stamp-of e i)
   unfolding find count
-  find-own i [] q h c = absurd (omega arith)
-  find-own i (s ∷ ss) q h c = go (ℕ-discrete i s) (eqb (lo-of e s) (lo-of e i)) refl c (find-own i ss q)
+  find-own i [] q t h c = absurd (omega arith)
+  find-own i (s ∷ ss) q t h c = go (ℕ-discrete i s) (eqb (lo-of e s) (lo-of e i)) refl c (find-own i ss q t)
     where
       go : Dec (i ≡ s) → (b : Bool) → eqb (lo-of e s) (lo-of e i) ≡ b → cond b 1 0 + count (λ s. eqb (lo-of e s) (lo-of e i)) ss ≤ 1
-          → (1 ≤ times i ss → count (λ s. eqb (lo-of e s) (lo-of e i)) ss ≤ 1 → find (map (read-point e) ss) (lo-of e i) absent ≡ model.found (tally-of e i) (stamp-of e i))
-          → cond b (reads (read-point e s .entry) (stamp-of e s)) (find (map (read-point e) ss) (lo-of e i) absent) ≡ model.found (tally-of e i) (stamp-of e i)
-      go (yes r) true g m ih = ap (λ x. reads (read-point e x .entry) (stamp-of e x)) (sym r) ∙ rw (eq-eqb (kind-of e i) 1 q)
+          → (1 ≤ times i ss → count (λ s. eqb (lo-of e s) (lo-of e i)) ss ≤ 1 → find 0 (map (read-point e) ss) (lo-of e i) absent ≡ model.found (tally-of e i) (stamp-of e i))
+          → cond b (judged 0 (read-point e s .entry) (stamp-of e s)) (find 0 (map (read-point e) ss) (lo-of e i) absent) ≡ model.found (tally-of e i) (stamp-of e i)
+      go (yes r) true g m ih = ap (λ x. judged 0 (read-point e x .entry) (stamp-of e x)) (sym r) ∙ rw (lt-leb (stamp-of e i) 0 t, eq-eqb (kind-of e i) 1 q)
       go (yes r) false g m ih = absurd (eqb-false (lo-of e s) (lo-of e i) g (ap (lo-of e) (sym r)))
       go (no r) true g m ih =
           absurd (omega (arith, m, h, times-other i s ss r, count-one (λ s. eqb (lo-of e s) (lo-of e i)) i (eq-eqb (lo-of e i) (lo-of e i) refl) ss))
