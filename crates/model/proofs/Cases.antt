@@ -88,12 +88,19 @@ ways = record {
   later-full = λ v. record { is-put = refl; after = lit< tt; write = delete 5; is-write = refl; covers = refl; accept = refl; fate = refl; term = lit≤ tt };
   acted = λ v. record { is-put = refl; after = lit< tt; write = delete 5; is-write = refl; covers = refl; accept = refl; fate = refl; term = lit≤ tt };
   range = λ v. record { is-put = refl; after = lit< tt; write = delete-range 4 6 2; is-write = refl; covers = refl; accept = refl; fate = refl; term = lit≤ tt };
+  hidden = λ v. record { is-put = refl; after = lit< tt; write = delete-range 4 6 1; is-write = refl; covers = refl; accept = refl; fate = refl; term = lit≤ tt };
+  dated-acted = λ v. record { is-put = refl; after = lit< tt; write = delete-range 4 6 1; is-write = refl; covers = refl; accept = refl; fate = refl; term = lit≤ tt };
   refused-put = λ v. record { is-put = refl; after = lit< tt; write = delete 5; is-write = refl; covers = refl; accept = refl; fate = refl; term = lit≤ tt };
   full-put = λ v. record { is-put = refl; after = lit< tt; write = delete 5; is-write = refl; covers = refl; accept = refl; fate = refl; term = lit≤ tt };
+  later-put = λ v. record { is-put = refl; after = lit< tt; write = delete 5; is-write = refl; covers = refl; accept = refl; fate = refl; term = lit≤ tt };
+  later-put-range = λ v. record { is-put = refl; after = lit< tt; write = delete-range 4 6 2; is-write = refl; covers = refl; accept = refl; fate = refl; term = lit≤ tt };
   before-entry = apart (λ (h : 120 ≡ 121). omega arith);
   unmerged = apart (λ (h : 50 ≡ 51). omega arith);
   too-early = apart (λ (h : 180 ≡ 181). omega arith);
   refused-delete = apart (λ (h : 50 ≡ 51). omega arith);
   other-docket = apart (λ (h : 50 ≡ 51). omega arith);
   delete-first = apart (λ (h : 50 ≡ 51). omega arith);
+  after-the-date = apart (λ (h : 50 ≡ 51). omega arith);
+  term-from-the-date = apart (λ (h : 180 ≡ 181). omega arith);
+  hidden-alone = apart (λ (h : 231 ≡ 232). omega arith);
 }

@@ -8,6 +8,8 @@ pub mod Keeps
 pub mod Form
 pub mod Settle
 pub mod StepView
+pub mod Points
+pub mod Timed
 pub mod Weights
 pub mod Slots
 pub mod Numbers

@@ -8,10 +8,10 @@ use lib.ListN.{length, take, drop, List·getD-map, replicate}
 use Rattle.lists.proofs.Bools.{cond-ap}
 use Rattle.settings.specs.declared.Settings.{Settings}
 use Rattle.model.specs.Records.{Entry, value, tombstone, Point, Range, Level, State, empty, fresh, slotless}
-use Rattle.model.specs.Steps.{write-covers, Work, Write, put, delete, delete-range, begin, pass, merge-all, still-due}
+use Rattle.model.specs.Steps.{Work, Write, put, delete, delete-range, begin, pass, merge-all, still-due}
 use Rattle.model.specs.Lookup.{Found, absent, reads, latest, judged, find, lookup-from, lookup}
 use Rattle.model.specs.Calls.{Op, written, flush, tick, Call, Outcome, bad-docket, bad-date, early-refusal, count-written, prepared, out-of-slots, refused, finish, step, run, answers}
-use Rattle.model.specs.Erasure.{call-at, accepted, pass-merges, merges-before, merges-buffer, merged-in, before, merged-after, Erased}
+use Rattle.model.specs.Erasure.{call-at, erases, accepted, pass-merges, merges-before, merges-buffer, merged-in, before, merged-after, Erased}
 use Rattle.model.specs.Renaming.{map-entry, map-found, map-point, map-range, map-level, map-state, map-work, map-write, map-op, map-call, map-outcome}
 use Rattle.model.proofs.NaturalMerge.{held-all-map}
 use Rattle.model.proofs.NaturalSteps.{merge-level-map, merge-all-map, write-map, no-slot-map, pass-map, still-due-map, full-map, crowded-map, buffer-due-map}
@@ -152,10 +152,10 @@ module _ {S T A B : Type 0} (g : S → T) (f : A → B) where
   call-at-map : (cs : List (Call A)) (i : ℕ) → call-at (map (map-call f) cs) i ≡ map-call f (call-at cs i)
   call-at-map cs i = List·getD-map (map-call f) cs i (record { clock = 0; op = tick })
 
-  write-covers-map : (w : Write A) (k t : ℕ) → write-covers (map-write f w) k t ≡ write-covers w k t
-  write-covers-map (put n a) k t = refl
-  write-covers-map (delete n) k t = refl
-  write-covers-map (delete-range lo hi date) k t = refl
+  erases-map : (t : ℕ) (w : Write A) (k b : ℕ) → erases t (map-write f w) k b ≡ erases t w k b
+  erases-map t (put n a) k b = refl
+  erases-map t (delete n) k b = refl
+  erases-map t (delete-range lo hi date) k b = refl
 
   before-map : (s : State S A) (cs : List (Call A)) (j : ℕ) → before (map-state g f s) (map (map-call f) cs) j ≡ map-state g f (before s cs j)
   before-map s cs j = rw (take-map j cs) (run-map s (take j cs))
@@ -184,7 +184,7 @@ module _ {S T A B : Type 0} (g : S → T) (f : A → B) where
         after = e .after;
         write = w;
         is-write = q;
-        covers = sym (write-covers-map w k b) ∙ ap (λ v. write-covers v k b) same ∙ (rw (call-at-map cs i) at (e .covers));
+        covers = sym (erases-map (d .clock) w k b) ∙ ap (λ v. erases (d .clock) v k b) same ∙ (rw (call-at-map cs i, call-at-map cs j) at (e .covers));
         accept = sym (rw (before-map s cs j, call-at-map cs j) (accepted-map (before s cs j) d)) ∙ e .accept;
         fate = sym (rw (← same, merged-after-map s cs j, before-map s cs j, call-at-map cs j, full-map g f (d .clock) w (before s cs j))) ∙ e .fate;
         term = rw (call-at-map cs j, run-map s cs) at (e .term);

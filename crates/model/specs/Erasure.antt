@@ -1,12 +1,13 @@
 -- Document 01, "The third demand": what became of a delete, worked out from the settings and the list alone.
 use mathlib.Core.Path.{_≡_}
-use mathlib.Core.Bool.{Bool, true, false, _&&_, _||_, not}
+use mathlib.Core.Bool.{Bool, true, false, _&&_, _||_}
 use mathlib.Core.List.{List, [], _∷_}
 use Prim.Native.Nat.{ℕ, suc, _-_, _≤_, _<_}
-use lib.Dec.{eqb}
+use lib.Dec.{leb, eqb}
 use lib.ListN.{getD, take, drop, set}
 use Rattle.model.specs.Records.{State}
-use Rattle.model.specs.Steps.{write-covers, Write, put, crowded, full, buffer-due}
+use Rattle.model.specs.Coverage.{over}
+use Rattle.model.specs.Steps.{Write, put, delete, delete-range, crowded, full, buffer-due}
 use Rattle.model.specs.Calls.{Op, written, flush, tick, Call, early-refusal, prepared, step, run}
 
 module _ {A : Type 0} where
@@ -17,6 +18,13 @@ module _ {A : Type 0} where
   -- The list whose put of docket k at place i carries the tally v.
   abbrev pub retally : ℕ → ℕ → A → List (Call A) → List (Call A)
   retally i k v cs = set cs i (record { clock = call-at cs i .clock; op = written (put k v) })
+
+  -- "an erased tally in the third demand is one that such a delete covered": the write at clock t covers the put of docket k at clock b. Only a date asks for b;
+  -- "a range delete without a date has its own clock as s".
+  abbrev pub erases : ℕ → Write A → ℕ → ℕ → Bool
+  erases t (put n a) k b = false
+  erases t (delete n) k b = over n n k
+  erases t (delete-range lo hi date) k b = over lo hi k && (eqb date t || leb b date)
 
 module _ {S A : Type 0} where
   -- "Accepted is a call that meets no refusal."
@@ -62,8 +70,8 @@ pub record Erased {S A : Type 0} (s : State S A) (cs : List (Call A)) (i j k : �
   pub after : i < j
   pub write : Write A
   pub is-write : call-at cs j .op ≡ written write
-  -- "an erased tally in the third demand is one that such a delete covered": the put's stamp is its clock.
-  pub covers : write-covers write k (call-at cs i .clock) ≡ true
+  -- "A delete covers the dockets from its lo to its hi."
+  pub covers : erases (call-at cs j .clock) write k (call-at cs i .clock) ≡ true
   -- "Accepted is a call that meets no refusal."
   pub accept : accepted (before s cs j) (call-at cs j) ≡ true
   -- "it acted on level L directly where the steps say so, else it entered the buffer"

@@ -5,7 +5,7 @@ use Prim.Native.Nat.{ℕ}
 use Rattle.model.specs.Records.{State}
 use Rattle.model.specs.Calls.{Call, run}
 use Rattle.model.specs.Erasure.{Erased}
-use Rattle.model.specs.Cases.{settings, store, P, D, R, F, T}
+use Rattle.model.specs.Cases.{settings, store, P, D, R, Y, F, T}
 
 -- Lists that differ in one tally, v.
 abbrev pub Twins : Type 0
@@ -33,9 +33,15 @@ pub record WayTable : Type 0 where
   -- "it acted on level L directly"
   pub acted : Meets (small 1 3) (λ v. P 1 5 v ∷ F 1 ∷ D 2 5 ∷ T 6 ∷ []) 0 2
   pub range : Meets (small 6 1) (λ v. P 1 5 v ∷ R 2 4 6 ∷ T 6 ∷ []) 0 1
+  -- Up to a date, which is the put's own clock: on level L under a newer put that hides it, and where the delete acts on level L.
+  pub hidden : Meets (small 6 1) (λ v. P 1 5 v ∷ P 1 6 60 ∷ P 1 7 70 ∷ P 2 5 51 ∷ Y 3 4 6 1 ∷ T 7 ∷ []) 0 4
+  pub dated-acted : Meets (small 1 3) (λ v. P 1 5 v ∷ F 1 ∷ Y 3 4 6 1 ∷ T 7 ∷ []) 0 2
   -- The put itself is refused, for its clock or for lack of a slot.
   pub refused-put : Meets (small 6 1) (λ v. P 0 5 v ∷ D 2 5 ∷ T 6 ∷ []) 0 1
   pub full-put : Meets (small 1 1) (λ v. P 1 6 60 ∷ P 1 5 v ∷ D 2 5 ∷ T 6 ∷ []) 1 2
+  -- So its clock can lie after that of a delete, or of a range delete "without a date".
+  pub later-put : Meets (small 1 1) (λ v. P 1 6 60 ∷ P 9 5 v ∷ D 2 5 ∷ T 6 ∷ []) 1 2
+  pub later-put-range : Meets (small 1 1) (λ v. P 1 6 60 ∷ P 9 5 v ∷ R 2 4 6 ∷ T 6 ∷ []) 1 2
   -- Level 0 is merged in the delete's own call, but only to make room, before the delete's entry.
   pub before-entry : Differ (small 3 4) (λ v. P 1 5 v ∷ F 1 ∷ P 1 6 60 ∷ D 1 6 ∷ P 1 7 70 ∷ D 2 5 ∷ T 6 ∷ [])
   -- The delete waits in the buffer.
@@ -46,3 +52,7 @@ pub record WayTable : Type 0 where
   pub refused-delete : Differ (small 6 1) (λ v. P 1 5 v ∷ D 0 5 ∷ T 6 ∷ [])
   pub other-docket : Differ (small 6 1) (λ v. P 1 5 v ∷ D 2 6 ∷ T 6 ∷ [])
   pub delete-first : Differ (small 6 1) (λ v. D 1 5 ∷ P 2 5 v ∷ T 6 ∷ [])
+  -- The put came after the date; the term has passed since the date, but not since the delete's clock; a newer put alone hides, and erases nothing.
+  pub after-the-date : Differ (small 6 1) (λ v. P 2 5 v ∷ Y 3 4 6 1 ∷ T 7 ∷ [])
+  pub term-from-the-date : Differ (small 6 1) (λ v. P 1 5 v ∷ P 1 6 60 ∷ P 1 7 70 ∷ Y 4 5 5 1 ∷ T 5 ∷ [])
+  pub hidden-alone : Differ (small 6 1) (λ v. P 1 5 v ∷ P 1 6 60 ∷ P 1 7 70 ∷ P 2 5 51 ∷ T 7 ∷ [])
