@@ -13,7 +13,7 @@ use Rattle.model.specs.Steps.{delete, delete-range, merge-all, no-slot}
 use Rattle.model.specs.Calls.{Call, Outcome, written, early-refusal, out-of-slots, refusing, step}
 use Rattle.model.specs.Erasure.{accepted}
 use Rattle.model.proofs.StepView.{early-other, StepView, turned-away, refused-7, passed, step-view, accepted-outcome}
-use Rattle.model.proofs.PlainMaps.{merge-all-clock}
+use Rattle.model.proofs.Timed.{merge-all-clock}
 use Rattle.model.proofs.Demands as model
 use Rattle.tables.specs.Words.{Fits32}
 use Rattle.tables.specs.Slots.{slots-of, clock-of}

@@ -12,6 +12,7 @@ use Rattle.lists.proofs.Merges.{all-merge}
 use Rattle.model.specs.Records.{Point, Level, empty}
 use Rattle.model.specs.Merge.{covered, point-before, point-goes, merged, settled, joined}
 use Rattle.model.specs.Steps.{Write, put, delete, delete-range, single}
+use Rattle.model.proofs.Points.{merge-in, merge-in-all, merged-points, joined-points, merge-points}
 use Rattle.model.proofs.Lookups.{Upto, Yielding}
 
 module _ {S A : Type 0} where
@@ -28,31 +29,7 @@ module _ {S A : Type 0} where
   abbrev pub Bare : Level S A → Type 0
   Bare l = l .ranges ≡ []
 
-  -- The levels once level i has been merged into the next.
-  abbrev pub merged-at : Bool → ℕ → List (Level S A) → List (Level S A)
-  merged-at b i ls = set (set ls i empty) (suc i) (joined b (getD ls i empty) (getD ls (suc i) empty))
-
-  -- What holds of all points above and below holds of all that a merge leaves.
-  pub merged-points : (P : Point S A → Type 0) (u l : Level S A) → All P (u .points) → All P (l .points) → All P (merged u l .points)
-  unfolding merged
-  merged-points P u l a c = all-merge point-before P (u .points) (reject (point-goes u) (l .points)) a (all-select P _ (l .points) c)
-
-  joined-points : (P : Point S A → Type 0) (b : Bool) (u l : Level S A) → All P (u .points) → All P (l .points) → All P (joined b u l .points)
-  unfolding joined settled
-  joined-points P true u l a c = all-select P _ (merged u l .points) (merged-points P u l a c)
-  joined-points P false u l a c = merged-points P u l a c
-
-  -- What an empty level has, and a merge hands on, every level has afterwards.
-  merged-at-all : (Q : Level S A → Type 0) → Q empty → ((b : Bool) (u l : Level S A) → Q u → Q l → Q (joined b u l))
-      → (b : Bool) (i : ℕ) (ls : List (Level S A)) → All Q ls → All Q (merged-at b i ls)
-  merged-at-all Q none join b i ls a =
-      all-set Q (set ls i empty) (suc i) _ (all-set Q ls i empty a none)
-      (join b (getD ls i empty) (getD ls (suc i) empty) (all-get Q ls i empty a none) (all-get Q ls (suc i) empty a none))
-
-  pub merge-points : (P : Point S A → Type 0) (b : Bool) (i : ℕ) (ls : List (Level S A)) → All (λ l. All P (l .points)) ls → All (λ l. All P (l .points)) (merged-at b i ls)
-  merge-points P b i ls a = merged-at-all (λ l. All P (l .points)) tt (joined-points P) b i ls a
-
-  aged-merge : (b : Bool) (i : ℕ) (ls : List (Level S A)) → Aged ls → Aged (merged-at b i ls)
+  aged-merge : (b : Bool) (i : ℕ) (ls : List (Level S A)) → Aged ls → Aged (merge-in b i ls)
   aged-merge b i [] a = tt
   aged-merge b zero (u ∷ []) a = (tt, tt)
   aged-merge b zero (u ∷ l ∷ ls) a = (tt, (joined-points _ b u l (all-weaken _ _ (λ p h. h .1) (u .points) (a .0)) (a .1 .0), a .1 .1))
@@ -67,7 +44,7 @@ module _ {S A : Type 0} where
   -- What every merge keeps, and under which none changes a lookup.
   pub record Steady (P : List (Level S A) → Type 0) : Type 0 where
     pub yields : (ls : List (Level S A)) → P ls → Yielding ls
-    pub merging : (b : Bool) (i : ℕ) (ls : List (Level S A)) → P ls → P (merged-at b i ls)
+    pub merging : (b : Bool) (i : ℕ) (ls : List (Level S A)) → P ls → P (merge-in b i ls)
 
   pub aged-steady : Steady Aged
   aged-steady = record { yields = yields; merging = aged-merge }
@@ -80,7 +57,7 @@ module _ {S A : Type 0} where
   -- Where there is no range nothing is covered, whatever the stamps.
   pub bare-steady : Steady (All Bare)
   unfolding any
-  bare-steady = record { yields = yields; merging = merged-at-all Bare refl bare-joined }
+  bare-steady = record { yields = yields; merging = merge-in-all Bare refl bare-joined }
     where
       uncovered : (u : Level S A) → Bare u → (k t : ℕ) → covered (u .ranges) k t ≡ true → ⊥
       uncovered u e k t c = false≢true (rw e at c)
@@ -100,7 +77,7 @@ module _ {S A : Type 0} where
   timely-later t u ls h a = record
       { stamps = all-weaken _ _ (λ l b. all-weaken _ _ (λ p c. (c .0, omega (arith, c .1))) (l .points) b) ls (a .stamps); aged = a .aged }
 
-  pub timely-merge : (t : ℕ) (b : Bool) (i : ℕ) (ls : List (Level S A)) → Timely t ls → Timely t (merged-at b i ls)
+  pub timely-merge : (t : ℕ) (b : Bool) (i : ℕ) (ls : List (Level S A)) → Timely t ls → Timely t (merge-in b i ls)
   timely-merge t b i ls a = record { stamps = merge-points _ b i ls (a .stamps); aged = aged-merge b i ls (a .aged) }
 
   single-stamps : (x : S) (t : ℕ) (w : Write A) → All (λ p. p .stamp ≡ t) (single x t w .points)

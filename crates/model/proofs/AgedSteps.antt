@@ -18,19 +18,11 @@ use Rattle.model.specs.Calls.{Op, written, flush, tick, Call, Outcome, e
 use Rattle.model.specs.Lookup.{lookup}
 use Rattle.model.proofs.Keeps.{merge-all-keeps, pass-keeps, prepared-kept}
 use Rattle.model.proofs.Form.{Formed, formed-kept}
-use Rattle.model.proofs.StepView.{worked, accepted-outcome, StepView, turned-away, refused-7, passed, step-view, let-in-time}
+use Rattle.model.proofs.StepView.{worked, accepted-outcome, StepView, turned-away, refused-7, passed, step-view}
+use Rattle.model.proofs.Timed.{let-in-clock}
 use Rattle.model.proofs.Aged.{Stamped, Timely, timely-later, timely-merge, timely-enter}
 use Rattle.model.proofs.Deepest.{only, only-level, set-points-only, Drained, merge-all-drained}
 use Rattle.model.proofs.LookupSteps.{after-op, full-room, pass-lookup, prepared-lookup}
-
--- The clock of a call that is let in: 1 or more, and not before the last.
-pub let-in-clock : {A : Type 0} (last : ℕ) (c : Call A) → eqb (early-refusal last c) 0 ≡ true → (1 ≤ c .clock) × (last ≤ c .clock)
-let-in-clock last c e =
-    let late : Bool = ltb (c .clock) last in
-    let in-time : eqb (c .clock) 0 || late ≡ false = let-in-time last c e in (
-      omega (arith, eqb-false (c .clock) 0 (or-false-left (eqb (c .clock) 0) late in-time)),
-      ltb-false (c .clock) last (or-false-right (eqb (c .clock) 0) late in-time),
-    )
 
 module _ {S A : Type 0} (t : ℕ) where
   -- A store in form whose levels are timely at t.

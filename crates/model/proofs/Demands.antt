@@ -25,7 +25,8 @@ use Rattle.model.proofs.Settle.{pass-leaves-none-due}
 use Rattle.model.proofs.Numbers.{purged-sum, most-merges, merges-most, prepared-settings}
 use Rattle.model.proofs.Deepest.{Drained, merge-all-drained}
 use Rattle.model.proofs.Full.{full-live, live-full}
-use Rattle.model.proofs.PlainMaps.{Alike, run-alike, refusals-alike, fresh-alike, merge-all-clock}
+use Rattle.model.proofs.PlainMaps.{Alike, run-alike, refusals-alike, fresh-alike}
+use Rattle.model.proofs.Timed.{merge-all-clock}
 use Rattle.model.proofs.Scans.{scan-same}
 use Rattle.model.proofs.NaturalCalls.{run-map, answers-map, erased-with-slots, answers-slotless}
 use Rattle.model.proofs.Erasure.{erasure}

@@ -25,7 +25,8 @@ use Rattle.model.proofs.Slots.{Whole, whole-kept}
 use Rattle.model.proofs.Numbers.{merge-all-free}
 use Rattle.model.proofs.Lookups.{find-unnamed}
 use Rattle.model.proofs.Deepest.{only, only-level, lookup-only, held-only, Drained, merge-all-drained, drained-ordered}
-use Rattle.model.proofs.Aged.{Stamped, merge-points}
+use Rattle.model.proofs.Aged.{Stamped}
+use Rattle.model.proofs.Points.{merge-points}
 use Rattle.model.proofs.Passing.{merge-all-passing, merge-all-counts}
 
 put-found : {A : Type 0} (e : Entry A) (t : ℕ) → 1 ≤ t → is-put e ≡ true → is-found (judged 0 e t) ≡ true

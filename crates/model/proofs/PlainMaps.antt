@@ -27,6 +27,7 @@ use Rattle.model.proofs.Slots.{Whole, step-whole, fresh-whole}
 use Rattle.model.proofs.StepView.{accepted-outcome, StepView, turned-away, refused-7, passed, step-view}
 use Rattle.model.proofs.Levels.{uncovered, uncovered-all}
 use Rattle.model.proofs.Lookups.{lookup-empty}
+use Rattle.model.proofs.Timed.{merge-all-clock}
 use Rattle.model.proofs.Aged.{Timely, replicate-timely}
 use Rattle.model.proofs.LookupSteps.{after-op, after-op-same, merge-all-lookup}
 use Rattle.model.proofs.AgedSteps.{worked-lookup, step-timely}
@@ -197,10 +198,6 @@ module _ {S A : Type 0} (n : ℕ) (s : State S A) (m : PlainMap A) (same : Alike
   op-full-alike t tick = refl
 
 module _ {S A : Type 0} where
-  pub merge-all-clock : (s : State S A) → 0 < s .settings .deepest → merge-all s .state .clock ≡ s .clock
-  merge-all-clock s h = merge-all-keeps (λ (x : State S A). (x .clock ≡ s .clock) × (0 < x .settings .deepest)) (λ x p. p .1)
-      (λ i x l p. unfold merge-state in p) s (refl, h) .0 .0
-
   -- A call is refused alike, and leaves them alike.
   pub record StepAlike (n : ℕ) (m : PlainMap A) (c : Call A) (r : Outcome S A) : Type 0 where
     pub refusal : r .answer .refusal ≡ map-refusal n m c

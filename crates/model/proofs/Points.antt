@@ -24,6 +24,13 @@ module _ {S A : Type 0} where
   abbrev pub merge-in : Bool → ℕ → List (Level S A) → List (Level S A)
   merge-in b i ls = set (set ls i empty) (suc i) (joined b (getD ls i empty) (getD ls (suc i) empty))
 
+  -- What an empty level has, and a merge hands on, every level has afterwards.
+  pub merge-in-all : (Q : Level S A → Type 0) → Q empty → ((b : Bool) (u l : Level S A) → Q u → Q l → Q (joined b u l))
+      → (b : Bool) (i : ℕ) (ls : List (Level S A)) → All Q ls → All Q (merge-in b i ls)
+  merge-in-all Q none join b i ls a =
+      all-set Q (set ls i empty) (suc i) _ (all-set Q ls i empty a none)
+      (join b (getD ls i empty) (getD ls (suc i) empty) (all-get Q ls i empty a none) (all-get Q ls (suc i) empty a none))
+
   -- The points of level L after an action on it.
   abbrev pub acted : ℕ → Write A → List (Point S A) → List (Point S A)
   acted t (put n a) ps = map (overwrite n a t) ps
@@ -65,6 +72,9 @@ module _ {S A : Type 0} (P : Point S A → Type 0) where
   unfolding merged
   merged-all u l a c = all-merge point-before P (u .points) (reject (point-goes u) (l .points)) a c
 
+  pub merged-points : (u l : Level S A) → AllPoints u → AllPoints l → AllPoints (merged u l)
+  merged-points u l a c = merged-all u l a (all-select P _ (l .points) c)
+
   -- Of the lower level only what stays is asked.
   pub joined-all : (b : Bool) (u l : Level S A) → AllPoints u → All P (reject (point-goes u) (l .points)) → AllPoints (joined b u l)
   unfolding joined settled
@@ -75,8 +85,7 @@ module _ {S A : Type 0} (P : Point S A → Type 0) where
   joined-points b u l a c = joined-all b u l a (all-select P _ (l .points) c)
 
   pub merge-points : (b : Bool) (i : ℕ) (ls : List (Level S A)) → All AllPoints ls → All AllPoints (merge-in b i ls)
-  merge-points b i ls a = all-set AllPoints (set ls i empty) (suc i) _ (all-set AllPoints ls i empty a tt)
-      (joined-points b (getD ls i empty) (getD ls (suc i) empty) (all-get AllPoints ls i empty a tt) (all-get AllPoints ls (suc i) empty a tt))
+  merge-points b i ls a = merge-in-all AllPoints tt joined-points b i ls a
 
   pub acted-points : (t : ℕ) (w : Write A) (ps : List (Point S A)) → Writes t w → All P ps → All P (acted t w ps)
   unfolding single
