@@ -4,20 +4,16 @@ use mathlib.Core.List.{List, [], _∷_, _++_, map, append-assoc}
 use Prim.Native.Nat.{ℕ}
 use native.Mathlib.Omega.{arith}
 use lib.ListN.{length}
-use Rattle.tables.specs.Slots.{slot-at}
-use Rattle.tables.specs.Slots as slots
+use Rattle.tables.specs.Slots.{slot-at, with-value}
 use Rattle.tables.specs.Placed.{Cell, free-cell, head, cell-slot}
 use Rattle.tables.proofs.Cells.{AllChained, times-head, cell-slots}
 use Rattle.tables.proofs.Reading.{head-small}
 use Rattle.chain_links.specs.Links.{linked, released, stamped}
+use Rattle.chain_cells.specs.Cells.{with-date}
 use Rattle.chain_cells.specs.Held.{Held, top}
 use Rattle.chain_links.proofs.Links.{length-stamped, stamped-other, stamped-same}
 use Rattle.chain_cells.proofs.Frames.{Off, all-off, stands, stands-once, SameSlots, still-once, sum-cell, sum-none}
 use Rattle.chain_cells.proofs.Cuts.{Cut, cut, join, cut-swap, linked-after, relinked, freed, replaced, shifted}
-
--- The cell with another stamp.
-abbrev pub with-stamp : Cell → ℕ → Cell
-with-stamp c t = record { slot = c .slot; kind = c .kind; span = c .span; tally = c .tally; stamp = t }
 
 module _ (n clock : ℕ) (free : List ℕ) where
   -- The cell after some cells goes: its slot is wiped and the first free one, and they are linked to what follows it.
@@ -86,16 +82,16 @@ module _ (n clock : ℕ) (free : List ℕ) where
   rewritten a done c c′ cs others e e′ h own len off zero row =
       swapped (done ++ c′ ∷ cs) a others e′ (rewritten-first done c c′ cs (a ∷ others) e e′ (swapped a (done ++ c ∷ cs) others e h) own len off zero row)
 
-  pub restamped : (a done : List Cell) (c : Cell) (cs : List Cell) (others : List (List Cell)) (e : List ℕ) (t : ℕ)
+  pub restamped : (a done : List Cell) (c : Cell) (cs : List Cell) (others : List (List Cell)) (e : List ℕ) (date stamp : ℕ)
       → Held n clock free (a ∷ (done ++ c ∷ cs) ∷ others) e
-      → Held n clock free (a ∷ (done ++ with-stamp c t ∷ cs) ∷ others) (stamped e (c .slot) t)
-  restamped a done c cs others e t h =
+      → Held n clock free (a ∷ (done ++ with-date date stamp c ∷ cs) ∷ others) (stamped e (c .slot) date stamp)
+  restamped a done c cs others e date stamp h =
       let here : Cut n clock free done (c .slot) ((c ∷ cs) ∷ a ∷ others) e =
       cut n clock free done (c ∷ cs) (a ∷ others) e (swapped a (done ++ c ∷ cs) others e h) in
-      rewritten a done c (with-stamp c t) cs others e (stamped e (c .slot) t) h refl (length-stamped e (c .slot) t)
-      (λ u ne nz. stamped-other e (c .slot) t u ne)
-      (stamped-other e (c .slot) t 0 (omega (arith, here .each .1 .0 .0)))
-      (stamped-same e (c .slot) t (omega (arith, here .room, here .each .1 .0 .1)) ∙ ap (slots.with-stamp t) (here .each .1 .0 .2))
+      rewritten a done c (with-date date stamp c) cs others e (stamped e (c .slot) date stamp) h refl (length-stamped e (c .slot) date stamp)
+      (λ u ne nz. stamped-other e (c .slot) date stamp u ne)
+      (stamped-other e (c .slot) date stamp 0 (omega (arith, here .each .1 .0 .0)))
+      (stamped-same e (c .slot) date stamp (omega (arith, here .room, here .each .1 .0 .1)) ∙ ap (with-value date stamp) (here .each .1 .0 .2))
 
 -- The first free slot filled: a chain of that one cell.
 pub taken : (n clock x : ℕ) (free : List ℕ) (c : Cell) (chains : List (List Cell)) (e e′ : List ℕ) → Held n clock (x ∷ free) chains e → c .slot ≡ x

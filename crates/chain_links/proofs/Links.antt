@@ -5,7 +5,7 @@ use mathlib.Core.List.{List}
 use Prim.Native.Nat.{ℕ}
 use native.Mathlib.Omega.{arith}
 use lib.ListN.{length}
-use Rattle.tables.specs.Slots.{InTable, slot-at, link-to, kind-of, free-slot, first-free, with-link, with-stamp}
+use Rattle.tables.specs.Slots.{InTable, slot-at, link-to, kind-of, free-slot, first-free, with-link, with-value}
 use Rattle.tables.proofs.Slots.{length-set-slot, slot-other, slot-same}
 use Rattle.chain_links.specs.Links.{linked, released, stamped}
 
@@ -41,15 +41,15 @@ module _ (e : List ℕ) (s : ℕ) where
       slot-same _ 0 _ (omega (arith, length-set-slot e s (free-slot (first-free e))))
       ∙ ap (with-link s) (slot-other e s _ 0 nz)
 
-module _ (e : List ℕ) (s t : ℕ) where
-  pub length-stamped : length (stamped e s t) ≡ length e
+module _ (e : List ℕ) (s date stamp : ℕ) where
+  pub length-stamped : length (stamped e s date stamp) ≡ length e
   unfolding stamped
   length-stamped = length-set-slot e s _
 
-  pub stamped-other : (u : ℕ) → u ≢ s → slot-at (stamped e s t) u ≡ slot-at e u
+  pub stamped-other : (u : ℕ) → u ≢ s → slot-at (stamped e s date stamp) u ≡ slot-at e u
   unfolding stamped
   stamped-other u ne = slot-other e s _ u (λ q. ne (sym q))
 
-  pub stamped-same : InTable e s → slot-at (stamped e s t) s ≡ with-stamp t (slot-at e s)
+  pub stamped-same : InTable e s → slot-at (stamped e s date stamp) s ≡ with-value date stamp (slot-at e s)
   unfolding stamped
   stamped-same h = slot-same e s _ h

@@ -1,27 +1,35 @@
-// One slot of a chain changed: linked to another slot, wiped and freed, or stamped.
+// One slot of a chain changed: linked to another slot, wiped and freed, or given a later date and stamp.
+use table_slots::date_of;
 use table_slots::first_free;
 use table_slots::kind_of;
 use table_slots::set_first_free;
 use table_slots::set_free;
 use table_slots::set_link;
-use table_slots::set_stamp;
+use table_slots::set_value;
 use table_slots::stamp_of;
 ghost use mathlib.Core.Path.{_≡_};
-ghost use Prim.Native.Nat.{_+_, _*_, _<_, max};
-ghost use lib.ListN.{length};
-ghost use Rattle.tables.specs.Slots.{InTable, stamp-of};
+ghost use Prim.Native.Nat.{_<_, max};
+ghost use Rattle.tables.specs.Slots.{InTable, date-of, stamp-of};
 ghost use Rattle.chain_links.specs.Links.{linked, released, stamped};
 
-// The slot's stamp becomes the later of its own and another's.
-pub fn restamp(e: &mut [u32], slot: usize, other: usize)
+// Of two ranges alike the one that stays takes the later date and the later stamp.
+pub fn take_later(e: &mut [u32], slot: usize, other: usize)
     requires { ⌜ InTable (now e) slot ⌝ }
     requires { ⌜ InTable (now e) other ⌝ }
-    ensures { λ _. ⌜ now (e .exit) ≡ stamped (now (e .entry)) slot (max (stamp-of (now (e .entry)) slot) (stamp-of (now (e .entry)) other)) ⌝ }
+    ensures { λ _. ⌜ now (e .exit) ≡ stamped (now (e .entry)) slot (max (date-of (now (e .entry)) slot) (date-of (now (e .entry)) other)) (max (stamp-of (now (e .entry)) slot) (stamp-of (now (e .entry)) other)) ⌝ }
 {
-    let stamp = stamp_of(e, other);
-    if stamp_of(e, slot) < stamp {
-        set_stamp(e, slot, stamp);
+    let date = later(date_of(e, slot), date_of(e, other));
+    let stamp = later(stamp_of(e, slot), stamp_of(e, other));
+    set_value(e, slot, date, stamp);
+}
+
+fn later(a: u32, b: u32) -> u32
+    ensures { λ r. ⌜ r ≡ max a b ⌝ }
+{
+    if a < b {
+        return b;
     }
+    a
 }
 
 // The slot's next becomes another; its kind stays.

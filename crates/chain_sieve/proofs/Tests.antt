@@ -11,15 +11,18 @@ use Rattle.tables.specs.Placed.{Cell}
 use Rattle.chain_cells.specs.Cells.{cell-lo, cell-hi}
 use Rattle.chain_sieve.specs.Doomed.{doomed}
 use Rattle.chain_sieve.specs.declared.Doomed.{Doomed}
-use Rattle.chain_sieve.specs.declared.Doomed.the-variants.{Deletes, Points, Range}
+use Rattle.chain_sieve.specs.declared.Doomed.the-variants.{Deletes, Docket, Covered, Range}
 
 module _ (which : Doomed) (c : Cell) where
   pub by-kind : (kind : ℕ) → which ≡ Deletes → kind ≡ c .kind → eqb kind 2 ≡ doomed which c
   by-kind kind q k = rw (q, k)
 
 module _ (which : Doomed) (c : Cell) (lo hi key : ℕ) (key≡ : key ≡ cell-lo c) where
-  pub by-points : (says : Bool) → which ≡ Points lo hi → says ≡ covers lo hi key → says ≡ doomed which c
-  by-points says q s = rw (q, ← key≡) s
+  pub by-docket : (k : ℕ) → which ≡ Docket k → eqb key k ≡ doomed which c
+  by-docket k q = rw (q, ← key≡)
+
+  pub by-cover : (date stamp : ℕ) (says : Bool) → which ≡ Covered lo hi date → stamp ≡ c .stamp → says ≡ covers lo hi date key stamp → says ≡ doomed which c
+  by-cover date stamp says q t s = rw (q, ← key≡, ← t) s
 
   pub other-range : which ≡ Range lo hi → key ≢ lo → false ≡ doomed which c
   other-range q h = rw (q, ne-eqb (cell-lo c) lo (λ r. h (omega arith)))

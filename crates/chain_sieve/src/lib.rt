@@ -7,6 +7,7 @@ use table_slots::hi_of;
 use table_slots::kind_of;
 use table_slots::lo_of;
 use table_slots::next_of;
+use table_slots::stamp_of;
 ghost use mathlib.Core.Path.{_≡_};
 ghost use Prim.Native.Nat.{_+_, _*_, _<_};
 ghost use lib.ListN.{length};
@@ -18,11 +19,12 @@ ghost use Rattle.chain_cells.specs.Cells.{cell-at};
 ghost use Rattle.chain_cells.specs.Sifting.{Chain, OneHeld, Sifted};
 ghost use Rattle.chain_sieve.specs.Doomed.{doomed};
 
-// Which cells go: the deletes among points, all cells, the points that the delete from lo to hi covers, the range from lo to hi.
+// Which cells go: the deletes among points, all cells, the point of a docket, the points that the delete from lo to hi with a date covers, the range from lo to hi.
 pub enum Doomed {
     Deletes,
     All,
-    Points(u32, u32),
+    Docket(u32),
+    Covered(u32, u32, u32),
     Range(u32, u32),
 }
 
@@ -67,7 +69,8 @@ fn is_doomed(e: &[u32], slot: usize, which: Doomed) -> bool
     match which {
         Doomed::Deletes => kind_of(e, slot) == DELETE,
         Doomed::All => true,
-        Doomed::Points(lo, hi) => covers(lo, hi, lo_of(e, slot)),
+        Doomed::Docket(docket) => lo_of(e, slot) == docket,
+        Doomed::Covered(lo, hi, date) => covers(lo, hi, date, lo_of(e, slot), stamp_of(e, slot)),
         Doomed::Range(lo, hi) => {
             if lo_of(e, slot) != lo {
                 return false;

@@ -8,7 +8,7 @@ use Rattle.chain_cells.specs.Splicing.{Chains}
 use Rattle.chain_cells.proofs.Sieves.{sifting-begins, sifting-ends}
 use Rattle.merge_unite.specs.Uniting.{doubled, later-cell, RangesHeld, United, lower-chain, Uniting}
 use Rattle.merge_unite.specs.declared.Progress.{Progress}
-use Rattle.merge_unite.proofs.Stamps.{later-end}
+use Rattle.merge_unite.proofs.Dates.{later-end}
 use Rattle.merge_unite.proofs.Places.{lower-none}
 
 pub uniting-begins : (g : Chains) (e : List ℕ) (upper lower : ℕ) → RangesHeld g e upper lower
@@ -26,7 +26,7 @@ uniting-begins g e upper lower h = record {
   upper-ordered = h .upper-ordered;
   lower-ordered = h .lower-ordered;
   doubles = λ q. refl;
-  stamps = refl;
+  later = refl;
 }
 
 pub uniting-ends : (g : Chains) (e : List ℕ) (m : Progress) → m .cursor .at ≡ 0 → Uniting g e m → United g e (m .cursor)
@@ -34,7 +34,7 @@ uniting-ends g e m z u =
     let lower = lower-chain g (u .upper) in
     let sifted : Sifted (doubled (g .upper)) lower e (m .cursor) = sifting-ends (doubled (g .upper)) lower e (m .cursor) (u .sifting) z in
     let upper≡ : u .upper ≡ map (later-cell (g .lower)) (g .upper) =
-    sym (later-end (u .upper)) ∙ ap (λ (qs : List Cell). map (later-cell qs) (u .upper)) (sym (lower-none g e m u z)) ∙ u .stamps in
+    sym (later-end (u .upper)) ∙ ap (λ (qs : List Cell). map (later-cell qs) (u .upper)) (sym (lower-none g e m u z)) ∙ u .later in
     record {
       held = rw (← upper≡) (sifted .held);
       head-is = sifted .head-is;

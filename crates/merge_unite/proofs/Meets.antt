@@ -1,4 +1,4 @@
--- Two ranges alike: the upper one takes the later stamp, and the lower one goes.
+-- Two ranges alike: the upper one takes the later date and the later stamp, and the lower one goes.
 use mathlib.Core.Path.{_≡_, refl, sym, ap, subst, _∙_}
 use mathlib.Core.Logic.{_≢_}
 use mathlib.Core.Bool.{true}
@@ -8,9 +8,8 @@ use native.Mathlib.Omega.{arith}
 use lib.ListN.{length}
 use Rattle.lists.specs.All.{All}
 use Rattle.lists.proofs.Tests.{all-weaken}
-use Rattle.tables.specs.Slots.{stamp-of}
 use Rattle.tables.specs.Placed.{Cell, head}
-use Rattle.chain_cells.specs.Cells.{cell-at, cell-key, cell-before}
+use Rattle.chain_cells.specs.Cells.{cell-at, cell-key, cell-before, cell-date}
 use Rattle.chain_cells.specs.Held.{Held}
 use Rattle.chain_cells.specs.Order.{CellsOrdered}
 use Rattle.chain_links.specs.Links.{stamped}
@@ -18,10 +17,10 @@ use Rattle.chain_cells.specs.Sifting.{Sifting, sift-of}
 use Rattle.chain_cells.specs.Splicing.{Chains}
 use Rattle.chain_cells.proofs.Laws.{restamped}
 use Rattle.chain_cells.proofs.Sieves.{left-length}
-use Rattle.merge_unite.specs.Uniting.{same-span, doubled, later-cell, lower-chain, Uniting, to-see}
+use Rattle.merge_unite.specs.Uniting.{same-span, doubled, united-cell, later-cell, lower-chain, Uniting, to-see}
 use Rattle.merge_unite.specs.declared.Progress.{Progress}
 use Rattle.merge_unite.proofs.Spans.{after-other, one-span}
-use Rattle.merge_unite.proofs.Stamps.{Apart, doubled-here, doubled-stamp, took, later-took, later-past}
+use Rattle.merge_unite.proofs.Dates.{Apart, doubled-here, doubled-date, later-took, later-past}
 use Rattle.merge_unite.proofs.Places.{First, lower-first, upper-first, upper-length, upper-cell, lower-cell, left-ordered, passed-apart}
 use Rattle.merge_unite.proofs.Steps.{Seen}
 
@@ -30,14 +29,18 @@ apart-after : (c d : Cell) (cs : List Cell) → cell-key c ≡ cell-key d → Al
 apart-after c d cs one after =
     all-weaken (λ q. cell-before c q ≡ true) (λ q. cell-key q ≢ cell-key d) (λ q h k. after-other c q h (k ∙ sym one)) cs after
 
+-- The table after a slot took the later date and the later stamp of two cells.
+abbrev written : List ℕ → ℕ → Cell → Cell → List ℕ
+written e s c d = stamped e s (max (cell-date c) (cell-date d)) (max (c .stamp) (d .stamp))
+
 module _ (g : Chains) (e : List ℕ) (m : Progress) (u : Uniting g e m) (a : First (u .ahead)) (l : First (u .left))
     (alike : cell-key (cell-at e (m .upper)) ≡ cell-key (cell-at e (m .cursor .at))) where
-  -- The table and the upper ranges after the stamp was written.
+  -- The table and the upper ranges after the date and the stamp were written.
   abbrev table : List ℕ
-  table = stamped e (m .upper) (max (stamp-of e (m .upper)) (stamp-of e (m .cursor .at)))
+  table = written e (m .upper) (cell-at e (m .upper)) (cell-at e (m .cursor .at))
 
   abbrev upper : List Cell
-  upper = u .passed ++ took (l .cell) (a .cell) ∷ a .rest
+  upper = u .passed ++ united-cell (a .cell) (l .cell) ∷ a .rest
 
   upper-was : u .upper ≡ u .passed ++ a .cell ∷ a .rest
   upper-was = u .parts ∙ ap (λ (cs : List Cell). u .passed ++ cs) (a .is)
@@ -54,11 +57,11 @@ module _ (g : Chains) (e : List ℕ) (m : Progress) (u : Uniting g e m) (a : Fir
   same : same-span (l .cell) (a .cell) ≡ true
   same = one-span (l .cell) (a .cell) (lower-order .fit .0) (upper-order .fit .0) (sym keys)
 
-  table-is : stamped e (a .cell .slot) (max (a .cell .stamp) (l .cell .stamp)) ≡ table
+  table-is : written e (a .cell .slot) (a .cell) (l .cell) ≡ table
   table-is =
-      ap (λ (s : ℕ). stamped e s (max (a .cell .stamp) (l .cell .stamp))) (sym (u .upper-is ∙ ap head (a .is)))
-      ∙ ap (λ (c : Cell). stamped e (m .upper) (max (c .stamp) (l .cell .stamp))) (sym (upper-cell g e m u (a .cell) (a .rest) (a .is)))
-      ∙ ap (λ (c : Cell). stamped e (m .upper) (max (stamp-of e (m .upper)) (c .stamp))) (sym (lower-cell g e m u (l .cell) (l .rest) (l .is)))
+      ap (λ (s : ℕ). written e s (a .cell) (l .cell)) (sym (u .upper-is ∙ ap head (a .is)))
+      ∙ ap (λ (c : Cell). written e (m .upper) c (l .cell)) (sym (upper-cell g e m u (a .cell) (a .rest) (a .is)))
+      ∙ ap (written e (m .upper) (cell-at e (m .upper))) (sym (lower-cell g e m u (l .cell) (l .rest) (l .is)))
 
   -- The lower chain, and the table that holds it with an upper one.
   abbrev lower : List Cell
@@ -71,7 +74,8 @@ module _ (g : Chains) (e : List ℕ) (m : Progress) (u : Uniting g e m) (a : Fir
   held =
       let was : Holds (u .passed ++ a .cell ∷ a .rest) e = subst (λ (cs : List Cell). Holds cs e) upper-was (u .sifting .here .held) in
       subst (Holds upper) table-is
-      (restamped (g .slots) (g .clock) (u .sifting .free) lower (u .passed) (a .cell) (a .rest) (g .others) e (max (a .cell .stamp) (l .cell .stamp)) was)
+      (restamped (g .slots) (g .clock) (u .sifting .free) lower (u .passed) (a .cell) (a .rest) (g .others) e
+      (max (cell-date (a .cell)) (cell-date (l .cell))) (max (a .cell .stamp) (l .cell .stamp)) was)
 
   abbrev sifting : Sifting (sift-of (doubled (g .upper)) (lower-chain g upper)) table (m .cursor)
   sifting = record {
@@ -90,12 +94,12 @@ module _ (g : Chains) (e : List ℕ) (m : Progress) (u : Uniting g e m) (a : Fir
     };
   }
 
-  -- The walk stands as before: beside the lower range at the cursor the upper one's own stamp is of no account.
+  -- The walk stands as before: beside the lower range at the cursor the upper one's own date and stamp are of no account.
   uniting : Uniting g table m
   uniting = record {
     upper = upper;
     passed = u .passed;
-    ahead = took (l .cell) (a .cell) ∷ a .rest;
+    ahead = united-cell (a .cell) (l .cell) ∷ a .rest;
     left = u .left;
     sifting = sifting;
     left-is = u .left-is;
@@ -105,13 +109,13 @@ module _ (g : Chains) (e : List ℕ) (m : Progress) (u : Uniting g e m) (a : Fir
     upper-ordered = record { ascend = (upper-order .ascend .0, upper-order .ascend .1); fit = (upper-order .fit .0, upper-order .fit .1) };
     lower-ordered = u .lower-ordered;
     doubles =
-        λ q. doubled-stamp q (u .passed) (a .cell) (max (a .cell .stamp) (l .cell .stamp)) (a .rest)
+        λ q. doubled-date q (u .passed) (a .cell) _ _ (a .rest)
         ∙ ap (λ (cs : List Cell). doubled cs q) (sym upper-was) ∙ u .doubles q;
-    stamps =
+    later =
         ap (λ (qs : List Cell). map (later-cell qs) upper) (l .is)
         ∙ later-took (l .cell) (l .rest) (u .passed) (a .cell) (a .rest) same
         ∙ ap (λ (qs : List Cell). map (later-cell qs) (u .passed ++ a .cell ∷ a .rest)) (sym (l .is))
-        ∙ ap (map (later-cell (u .left))) (sym upper-was) ∙ u .stamps;
+        ∙ ap (map (later-cell (u .left))) (sym upper-was) ∙ u .later;
   }
 
   seen : Seen true g table m
@@ -127,7 +131,7 @@ module _ (g : Chains) (e : List ℕ) (m : Progress) (u : Uniting g e m) (a : Fir
         is = l .is;
         test = sym (sym (u .doubles x) ∙ ap (λ (cs : List Cell). doubled cs x) upper-was ∙ doubled-here x (u .passed) c (a .rest) again);
         same = later-past x (l .rest) (u .passed) c (a .rest) same (passed-apart g e m u x (l .rest) (l .is))
-            (apart-after x c (l .rest) (sym keys) (lower-order .ascend .0)) (apart-after c x (a .rest) keys (upper-order .ascend .0));
+            (apart-after c x (a .rest) keys (upper-order .ascend .0));
       }
 
   -- There is as much to see as before.
@@ -145,9 +149,9 @@ module _ (g : Chains) (e : List ℕ) (m : Progress) (u : Uniting g e m) (a : Fir
 
 module _ (g : Chains) (e e′ : List ℕ) (m : Progress) (lower : m .cursor .at ≢ 0) (upper : m .upper ≢ 0)
     (alike : cell-key (cell-at e (m .upper)) ≡ cell-key (cell-at e (m .cursor .at)))
-    (stamped≡ : e′ ≡ stamped e (m .upper) (max (stamp-of e (m .upper)) (stamp-of e (m .cursor .at)))) (u : Uniting g e m) where
+    (written≡ : e′ ≡ written e (m .upper) (cell-at e (m .upper)) (cell-at e (m .cursor .at))) (u : Uniting g e m) where
   pub alike-seen : Seen true g e′ m
-  alike-seen = subst (λ (t : List ℕ). Seen true g t m) (sym stamped≡) (seen g e m u (upper-first g e m u upper) (lower-first g e m u lower) alike)
+  alike-seen = subst (λ (t : List ℕ). Seen true g t m) (sym written≡) (seen g e m u (upper-first g e m u upper) (lower-first g e m u lower) alike)
 
   pub alike-sees : to-see e′ m ≡ to-see e m
-  alike-sees = ap (λ (t : List ℕ). to-see t m) stamped≡ ∙ sees g e m u (upper-first g e m u upper) (lower-first g e m u lower) alike
+  alike-sees = ap (λ (t : List ℕ). to-see t m) written≡ ∙ sees g e m u (upper-first g e m u upper) (lower-first g e m u lower) alike

@@ -22,7 +22,7 @@ use Rattle.chain_cells.proofs.Sieves.{cursor-fits, left-length, cursor-cell}
 use Rattle.merge_unite.specs.Uniting.{doubled, lower-chain, Uniting}
 use Rattle.merge_unite.specs.declared.Progress.{Progress}
 use Rattle.merge_unite.proofs.Spans.{before-other}
-use Rattle.merge_unite.proofs.Stamps.{Apart}
+use Rattle.merge_unite.proofs.Dates.{Apart}
 
 -- A chain whose head is a slot has a first cell.
 pub record First (cs : List Cell) : Type 0 where

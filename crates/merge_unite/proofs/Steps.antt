@@ -20,7 +20,7 @@ use Rattle.chain_cells.proofs.Sieves.{left-after}
 use Rattle.merge_unite.specs.Uniting.{doubled, later-cell, lower-chain, Uniting, to-see}
 use Rattle.merge_unite.specs.declared.Progress.{Progress}
 use Rattle.merge_unite.proofs.Spans.{before-trans}
-use Rattle.merge_unite.proofs.Stamps.{Apart, doubled-apart, later-apart}
+use Rattle.merge_unite.proofs.Dates.{Apart, doubled-apart, later-apart}
 use Rattle.merge_unite.proofs.Places.{First, lower-first, lower-cell, left-ordered, passed-before, passed-apart, upper-first, upper-length, upper-cell, upper-next, upper-none}
 
 -- One step, which leaves less to see.
@@ -56,11 +56,11 @@ passes-upper g e m upper next≡ some-lower some-upper less u =
       upper-ordered = record { ascend = ordered .ascend .1; fit = ordered .fit .1 };
       lower-ordered = u .lower-ordered;
       doubles = u .doubles;
-      stamps = u .stamps;
+      later = u .later;
     } in
     (next, omega (arith, upper-length g e m u, upper-length g e (record { upper = upper; cursor = m .cursor }) next, ap length (a .is)))
 
--- The lower range at the cursor, of which it is known whether it goes, and whose stamp no upper range has still to take.
+-- The lower range at the cursor, of which it is known whether it goes, and whose date and stamp no upper range has still to take.
 pub record Seen (goes : Bool) (g : Chains) (e : List ℕ) (m : Progress) : Type 0 where
   pub uniting : Uniting g e m
   pub cell : Cell
@@ -94,7 +94,7 @@ module _ (goes : Bool) (g : Chains) (e e′ : List ℕ) (m : Progress) (m′ : C
         upper-ordered = u .upper-ordered;
         lower-ordered = record { ascend = ordered .ascend .1; fit = ordered .fit .1 };
         doubles = u .doubles;
-        stamps = sym (s .same) ∙ ap (λ (qs : List Cell). map (later-cell qs) (u .upper)) (sym (s .is)) ∙ u .stamps;
+        later = sym (s .same) ∙ ap (λ (qs : List Cell). map (later-cell qs) (u .upper)) (sym (s .is)) ∙ u .later;
       } in
       (next, omega (arith, upper-length g e m u, upper-length g e′ (record { upper = m .upper; cursor = m′ }) next, step h (u .sifting) test .1))
 

@@ -1,4 +1,4 @@
--- Ranges of two levels: which lower ones go, and which stamp the upper ones take.
+-- Ranges of two levels: which lower ones go, and which date and stamp the upper ones take.
 use mathlib.Core.Path.{_≡_}
 use mathlib.Core.Bool.{Bool, true, cond}
 use mathlib.Core.List.{List, [], _∷_, _++_, map}
@@ -11,7 +11,7 @@ use Rattle.model.specs.Merge.{release}
 use Rattle.tables.specs.Sound.{chain-from}
 use Rattle.tables.specs.Placed.{Cell, head}
 use Rattle.tables.proofs.Cells.{cell-slots}
-use Rattle.chain_cells.specs.Cells.{cell-before, last-slot}
+use Rattle.chain_cells.specs.Cells.{cell-before, cell-date, with-date, last-slot}
 use Rattle.chain_cells.specs.Order.{CellsOrdered}
 use Rattle.chain_cells.specs.Held.{Held}
 use Rattle.chain_cells.specs.Sifting.{Chain, Sifting, sift-of, left-at}
@@ -26,13 +26,14 @@ same-span c d = eqb (c .span) (d .span)
 abbrev pub doubled : List Cell → Cell → Bool
 doubled upper c = any (λ d. same-span d c) upper
 
--- "one remains, with the later stamp": an upper cell, seen beside the lower ones.
+-- "Of two ranges with equal lo and hi the one left keeps the later s and the later stamp."
+abbrev pub united-cell : Cell → Cell → Cell
+united-cell c q = with-date (max (cell-date c) (cell-date q)) (max (c .stamp) (q .stamp)) c
+
+-- An upper cell, seen beside the lower ones.
 unfoldable pub later-cell : List Cell → Cell → Cell
 later-cell [] c = c
-later-cell (q ∷ qs) c =
-    cond (same-span q c)
-    (record { slot = c .slot; kind = c .kind; span = c .span; tally = c .tally; stamp = max (c .stamp) (q .stamp) })
-    (later-cell qs c)
+later-cell (q ∷ qs) c = later-cell qs (cond (same-span q c) (united-cell c q) c)
 
 pub record RangesHeld (g : Chains) (e : List ℕ) (upper lower : ℕ) : Type 0 where
   pub two : TwoHeld g e upper lower
@@ -52,7 +53,7 @@ abbrev pub lower-chain : Chains → List Cell → Chain
 lower-chain g upper = record { slots = g .slots; clock = g .clock; free = g .free; cells = g .lower; others = upper ∷ g .others }
 
 -- Some upper ranges are passed, and come before every lower one that is left; those still ahead begin at m's `upper`.
--- The upper ranges have taken the stamps of all lower ones but those that are left.
+-- The upper ranges have taken the dates and stamps of all lower ones but those that are left.
 pub record Uniting (g : Chains) (e : List ℕ) (m : Progress) : Type 0 where
   pub upper : List Cell
   pub passed : List Cell
@@ -66,7 +67,7 @@ pub record Uniting (g : Chains) (e : List ℕ) (m : Progress) : Type 0 where
   pub upper-ordered : CellsOrdered ahead
   pub lower-ordered : CellsOrdered left
   pub doubles : (q : Cell) → doubled upper q ≡ doubled (g .upper) q
-  pub stamps : map (later-cell left) upper ≡ map (later-cell (g .lower)) (g .upper)
+  pub later : map (later-cell left) upper ≡ map (later-cell (g .lower)) (g .upper)
 
 -- How many ranges have still to be passed.
 abbrev pub to-see : List ℕ → Progress → ℕ

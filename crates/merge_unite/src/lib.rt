@@ -1,7 +1,7 @@
-// Ranges of two levels on the way to one chain: of two alike the upper one stays, with the later stamp.
+// Ranges of two levels on the way to one chain: of two alike the upper one stays, with the later date and the later stamp.
 use chain_cells::Cursor;
 use chain_cells::sift;
-use chain_links::restamp;
+use chain_links::take_later;
 use table_slots::next_of;
 use table_slots::order_key;
 ghost use mathlib.Core.Logic.{_≢_};
@@ -16,7 +16,7 @@ struct Progress {
     cursor: Cursor,
 }
 
-// The lower ranges that the upper ones do not double; an upper one that doubles takes the later stamp.
+// The lower ranges that the upper ones do not double; an upper one that doubles takes the later date and the later stamp.
 pub fn unite(e: &mut [u32], upper: usize, lower: usize) -> Cursor
     requires { ⌜ Exists (λ g. RangesHeld g (now e) upper lower) ⌝ }
     ensures { λ m. ⌜ ((g : Chains) → RangesHeld g (now (e .entry)) upper lower → United g (now (e .exit)) m) ⌝ }
@@ -59,7 +59,7 @@ fn unite_step(e: &mut [u32], m: Progress) -> Progress
         };
     }
     if upper == lower {
-        restamp(e, m.upper, cursor.at);
+        take_later(e, m.upper, cursor.at);
         return Progress {
             upper: m.upper,
             cursor: sift(e, cursor, true),

@@ -1,7 +1,7 @@
 // The words of the entry table: a slot read and written, slot 0 included, and how many slots there are.
 ghost use mathlib.Core.Path.{_≡_};
 ghost use Prim.Native.Nat.{_<_, _≤_};
-ghost use Rattle.tables.specs.Slots.{entry-length, slots-of, InTable, slot-at, set-slot, link-to, span-from, next-of, kind-of, span-of, lo-of, hi-of, tally-of, date-of, stamp-of, free-slot, top-slot, first-free, clock-of, with-link, with-clock, with-stamp, with-value};
+ghost use Rattle.tables.specs.Slots.{entry-length, slots-of, InTable, slot-at, set-slot, link-to, span-from, next-of, kind-of, span-of, lo-of, hi-of, tally-of, date-of, stamp-of, free-slot, top-slot, first-free, clock-of, with-link, with-clock, with-value};
 ghost use Rattle.tables.specs.Sound.{order-key, top-blank, entries-fit};
 
 // The kinds of records; a free slot has kind 0.
@@ -126,14 +126,7 @@ pub fn set_link(e: &mut [u32], slot: usize, next: usize, kind: u32)
     e[WORDS * slot] = next as u32 + BASE * kind;
 }
 
-pub fn set_stamp(e: &mut [u32], slot: usize, stamp: u32)
-    requires { ⌜ InTable (now e) slot ⌝ }
-    ensures { λ _. ⌜ now (e .exit) ≡ set-slot (now (e .entry)) slot (with-stamp stamp (slot-at (now (e .entry)) slot)) ⌝ }
-{
-    e[WORDS * slot + 3] = stamp;
-}
-
-// A put over a put changes no more than these two.
+// A put over a put changes no more than these two, nor does a range that takes a later date and stamp.
 pub fn set_value(e: &mut [u32], slot: usize, value: u32, stamp: u32)
     requires { ⌜ InTable (now e) slot ⌝ }
     ensures { λ _. ⌜ now (e .exit) ≡ set-slot (now (e .entry)) slot (with-value value stamp (slot-at (now (e .entry)) slot)) ⌝ }

@@ -8,7 +8,7 @@ use native.Mathlib.Decide.{ℕ-discrete}
 use lib.ListN.{length, getD, set, length-set}
 use lib.Seq.{lt-length-set, getD-set-same, getD-set-other, set-getD, ext-getD}
 use Rattle.tables.specs.Words.{Fits32}
-use Rattle.tables.specs.Slots.{kind-of, hi-of, slot-size, InTable, Slot, slot-at, set-slot, slot-words, with-link, with-clock, with-stamp, with-value}
+use Rattle.tables.specs.Slots.{kind-of, hi-of, slot-size, InTable, Slot, slot-at, set-slot, slot-words, with-link, with-clock, with-value}
 
 pub length-set-slot : (e : List ℕ) (s : ℕ) (r : Slot) → length (set-slot e s r) ≡ length e
 unfolding set-slot
@@ -80,10 +80,6 @@ module _ (e : List ℕ) (s : ℕ) where
         kept f (slot-size * s + 2) (getD-set-other e (slot-size * s + 1) (slot-size * s + 2) v 0 n2),
         kept f (slot-size * s + 3) (getD-set-other e (slot-size * s + 1) (slot-size * s + 3) v 0 n3),
       ))
-
-  pub stamp-written : (v : ℕ) → set e (slot-size * s + 3) v ≡ set-slot e s (with-stamp v (slot-at e s))
-  unfolding set-slot
-  stamp-written v = sym (rw (set-getD e (slot-size * s) 0, set-getD e (slot-size * s + 1) 0, set-getD e (slot-size * s + 2) 0))
 
   pub value-written : (a t : ℕ) → set (set e (slot-size * s + 2) a) (slot-size * s + 3) t ≡ set-slot e s (with-value a t (slot-at e s))
   unfolding set-slot

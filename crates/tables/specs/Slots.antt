@@ -89,15 +89,12 @@ first-free e = slot-at e 0 .link
 abbrev pub clock-of : List ℕ → ℕ
 clock-of e = slot-at e 0 .span
 
--- A slot with another link, of another clock, with another stamp, or with another tally and stamp.
+-- A slot with another link, of another clock, or with another tally, or date, and stamp.
 abbrev pub with-link : ℕ → Slot → Slot
 with-link link r = record { link = link; span = r .span; tally = r .tally; stamp = r .stamp }
 
 abbrev pub with-clock : ℕ → Slot → Slot
 with-clock clock r = record { link = r .link; span = clock; tally = r .tally; stamp = r .stamp }
-
-abbrev pub with-stamp : ℕ → Slot → Slot
-with-stamp stamp r = record { link = r .link; span = r .span; tally = r .tally; stamp = stamp }
 
 abbrev pub with-value : ℕ → ℕ → Slot → Slot
 with-value tally stamp r = record { link = r .link; span = r .span; tally = tally; stamp = stamp }

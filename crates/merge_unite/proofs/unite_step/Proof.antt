@@ -78,8 +78,8 @@ returns-2 c =
     λ g u. passes-upper g (a .e .now) (a .m) _ (c .next-of .ensures) (start .pre .1) (some keyed .if1 .left)
     (omega (arith, upper≡, lower≡, c .before .before .if2 .taken)) u
 
-restamp-requires : tie.Need-restamp-requires
-restamp-requires c κs =
+take-later-requires : tie.Need-take-later-requires
+take-later-requires c κs =
     let u = start-of (c .before .before .before) .pre .0 .has in
     let upper = upper-in-table _ _ _ u in
     let lower = lower-in-table _ _ _ u in
@@ -91,8 +91,8 @@ sift-requires-2 c κs =
     let upper = some (met .before .before) in
     let start = entry (upper .before) in
     let a = start .args in
-    let restamped = c .before .before .before .restamp .ensures in
-    let seen = alike-seen _ (a .e .now) _ (a .m) (start .pre .1) (upper .if1 .left) (keys-alike met) restamped (start .pre .0 .has) in
+    let taken = c .before .before .before .take-later .ensures in
+    let seen = alike-seen _ (a .e .now) _ (a .m) (start .pre .1) (upper .if1 .left) (keys-alike met) taken (start .pre .0 .has) in
     (record { value = _; has = seen .uniting .sifting }, start .pre .1)
 
 same-length-3 : tie.Need-same-length-3
@@ -105,10 +105,10 @@ returns-3 c =
     let upper = some (met .before .before) in
     let start = entry (upper .before) in
     let a = start .args in
-    let restamped = written .before .before .restamp .ensures in
+    let taken = written .before .before .take-later .ensures in
     λ g u.
-    let seen = alike-seen g (a .e .now) _ (a .m) (start .pre .1) (upper .if1 .left) (keys-alike met) restamped u in
-    let same = alike-sees g (a .e .now) _ (a .m) (start .pre .1) (upper .if1 .left) (keys-alike met) restamped u in
+    let seen = alike-seen g (a .e .now) _ (a .m) (start .pre .1) (upper .if1 .left) (keys-alike met) taken u in
+    let same = alike-sees g (a .e .now) _ (a .m) (start .pre .1) (upper .if1 .left) (keys-alike met) taken u in
     let on = passes-lower true g _ _ (a .m) _ (c .before .before .sift2 .ensures) seen in
     (on .0, omega (arith, same, on .1))
 
@@ -143,7 +143,7 @@ unite-step-spec =
     next-of-requires
     same-length-2
     returns-2
-    restamp-requires
+    take-later-requires
     sift-requires-2
     same-length-3
     returns-3
