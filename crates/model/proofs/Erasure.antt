@@ -1,11 +1,11 @@
 -- The third demand for levels: had an erased put carried any other tally, the state would be the same.
 use mathlib.Core.Path.{_≡_, refl, sym, ap, _∙_}
-use mathlib.Core.Bool.{true, false, _||_, false≢true, true≢false}
+use mathlib.Core.Bool.{true, false, _&&_, false≢true, true≢false}
 use mathlib.Core.List.{List, [], _∷_, _++_, map}
 use Prim.Native.Nat.{ℕ, zero, suc, _≤_, _<_, min}
 use native.Mathlib.Omega.{arith}
 use lib.Dec.{leb, eqb}
-use borrow.Author.Tests.{eqb-true, leb-true}
+use borrow.Author.Tests.{eqb-true}
 use lib.ListN.{length, take, drop, set, take-append-drop, length-set, length-map, List·getD-map}
 use lib.Seq.{drop-cons, set-getD, drop-set-lt, getD-set-same, getD-set-other}
 use Rattle.settings.specs.declared.Settings.{Settings}
@@ -14,13 +14,13 @@ use Rattle.lists.specs.All.{All}
 use Rattle.lists.proofs.Bools.{by-cases, and-left, and-right, or-second}
 use Rattle.lists.proofs.Tests.{all-take, all-drop, all-set, all-map, all-every, all-replicate, all-weaken, map-id, set-map}
 use Rattle.model.specs.Records.{Entry, value, tombstone, Point, Level, State, empty, fresh}
-use Rattle.model.specs.Coverage.{over}
+use Rattle.model.specs.Coverage.{over, covers}
 use Rattle.model.specs.Steps.{Write, put, delete, delete-range, write-covers}
 use Rattle.model.specs.Calls.{Op, written, flush, tick, Call, step, run}
 use Rattle.model.specs.Erasure.{call-at, retally, erases, before, Erased}
 use Rattle.model.specs.Renaming.{map-entry, map-point, map-level, map-state, map-write, map-op, map-call}
 use Rattle.model.proofs.NaturalCalls.{fresh-map, run-map, erased-map}
-use Rattle.model.proofs.Coverage.{covers-true}
+use Rattle.model.proofs.Coverage.{covers-true, covers-parts}
 use Rattle.model.proofs.StepView.{accepted-ends}
 use Rattle.model.proofs.Form.{fresh-formed}
 use Rattle.model.proofs.Numbers.{run-settings}
@@ -126,9 +126,10 @@ erases-covers : {A : Type 0} (d : ℕ) (w : Write A) (k b : ℕ) → erases d w 
 erases-covers d (put n a) k b h = h
 erases-covers d (delete n) k b h = h
 erases-covers d (delete-range lo hi date) k b h =
-    covers-true lo hi date k (min b d) (and-left (over lo hi k) (eqb date d || leb b date) h)
-    (by-cases (eqb date d) (λ e. omega (arith, eqb-true date d e))
-    (λ n. omega (arith, leb-true b date (or-second (eqb date d) (leb b date) (and-right (over lo hi k) (eqb date d || leb b date) h) n))))
+    by-cases (covers lo hi date k b)
+    (λ e. let parts = covers-parts lo hi date k b e in covers-true lo hi date k (min b d) (parts .0) (omega (arith, parts .1)))
+    (λ n. let own = or-second (covers lo hi date k b) (eqb date d && over lo hi k) h n in
+    covers-true lo hi date k (min b d) (and-right (eqb date d) (over lo hi k) own) (omega (arith, eqb-true date d (and-left (eqb date d) (over lo hi k) own))))
 
 module _ {S A : Type 0} where
   fresh-marks : (k b t : ℕ) (settings : Settings) (slots : List S) → allowed settings ≡ true → MarksUpto {A = A} k b t (fresh settings slots)

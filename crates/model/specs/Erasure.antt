@@ -3,10 +3,10 @@ use mathlib.Core.Path.{_≡_}
 use mathlib.Core.Bool.{Bool, true, false, _&&_, _||_}
 use mathlib.Core.List.{List, [], _∷_}
 use Prim.Native.Nat.{ℕ, suc, _-_, _≤_, _<_}
-use lib.Dec.{leb, eqb}
+use lib.Dec.{eqb}
 use lib.ListN.{getD, take, drop, set}
 use Rattle.model.specs.Records.{State}
-use Rattle.model.specs.Coverage.{over}
+use Rattle.model.specs.Coverage.{over, covers}
 use Rattle.model.specs.Steps.{Write, put, delete, delete-range, crowded, full, buffer-due}
 use Rattle.model.specs.Calls.{Op, written, flush, tick, Call, early-refusal, prepared, step, run}
 
@@ -24,7 +24,7 @@ module _ {A : Type 0} where
   abbrev pub erases : ℕ → Write A → ℕ → ℕ → Bool
   erases t (put n a) k b = false
   erases t (delete n) k b = over n n k
-  erases t (delete-range lo hi date) k b = over lo hi k && (eqb date t || leb b date)
+  erases t (delete-range lo hi date) k b = covers lo hi date k b || (eqb date t && over lo hi k)
 
 module _ {S A : Type 0} where
   -- "Accepted is a call that meets no refusal."
