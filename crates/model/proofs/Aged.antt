@@ -5,12 +5,11 @@ use mathlib.Core.List.{List, [], _∷_}
 use Prim.Native.Nat.{ℕ, zero, suc, _≤_}
 use native.Mathlib.Omega.{arith}
 use lib.ListN.{getD, set, replicate}
-use Rattle.lists.specs.Lists.{any, select, reject, merge}
+use Rattle.lists.specs.Lists.{any, select, merge}
 use Rattle.lists.specs.All.{All}
-use Rattle.lists.proofs.Tests.{all-weaken, all-select, all-set, all-get, all-every}
-use Rattle.lists.proofs.Merges.{all-merge}
+use Rattle.lists.proofs.Tests.{all-weaken, all-every}
 use Rattle.model.specs.Records.{Point, Level, empty}
-use Rattle.model.specs.Merge.{covered, point-before, point-goes, merged, settled, joined}
+use Rattle.model.specs.Merge.{covered, merged, settled, joined}
 use Rattle.model.specs.Steps.{Write, put, delete, delete-range, single}
 use Rattle.model.proofs.Points.{merge-in, merge-in-all, merged-points, joined-points, merge-points}
 use Rattle.model.proofs.Lookups.{Upto, Yielding}

@@ -1,15 +1,14 @@
 -- A call keeps the age of records: a write's stamp is the clock, which nothing in the store is later than, and an action on level L comes when the levels above
 -- are empty.
 use mathlib.Core.Path.{_≡_, ap, _∙_}
-use mathlib.Core.Bool.{Bool, true, false, _||_}
+use mathlib.Core.Bool.{true, false}
 use mathlib.Core.List.{List, [], _∷_}
 use Prim.Native.Nat.{ℕ, zero, suc, _≤_, _<_}
 use native.Mathlib.Omega.{arith}
-use lib.Dec.{eqb, ltb}
-use borrow.Author.Tests.{eqb-false, ltb-false}
+use lib.Dec.{eqb}
 use Rattle.settings.specs.declared.Settings.{Settings}
 use Rattle.lists.specs.All.{All}
-use Rattle.lists.proofs.Bools.{cond-elim, or-false-left, or-false-right}
+use Rattle.lists.proofs.Bools.{cond-elim}
 use Rattle.lists.proofs.Tests.{all-weaken, all-map, all-select, all-get}
 use Rattle.model.specs.Records.{Point, Level, State, empty, level}
 use Rattle.model.specs.Merge.{release, settled}

@@ -4,7 +4,7 @@ use mathlib.Core.Bool.{true, false, _&&_, false≢true, true≢false}
 use mathlib.Core.List.{List, [], _∷_, _++_, map}
 use Prim.Native.Nat.{ℕ, zero, suc, _≤_, _<_, min}
 use native.Mathlib.Omega.{arith}
-use lib.Dec.{leb, eqb}
+use lib.Dec.{eqb}
 use borrow.Author.Tests.{eqb-true}
 use lib.ListN.{length, take, drop, set, take-append-drop, length-set, length-map, List·getD-map}
 use lib.Seq.{drop-cons, set-getD, drop-set-lt, getD-set-same, getD-set-other}

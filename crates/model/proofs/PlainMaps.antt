@@ -2,7 +2,7 @@
 use mathlib.Core.Path.{_≡_, refl, sym, ap, _∙_}
 use mathlib.Core.Bool.{Bool, true, false, cond, _&&_, _||_, not}
 use mathlib.Core.List.{List, [], _∷_, map}
-use Prim.Native.Nat.{ℕ, zero, suc, _≤_, _<_}
+use Prim.Native.Nat.{ℕ, zero, suc, _≤_}
 use native.Mathlib.Omega.{arith}
 use lib.Dec.{leb, eqb}
 use lib.ListN.{length, length-map, replicate}
@@ -16,12 +16,11 @@ use Rattle.lists.proofs.Tests.{any-map, any-same, any-select, any-select-weaken
 use Rattle.lists.proofs.Counting.{Distinct, pigeonhole}
 use Rattle.model.specs.Records.{Point, Level, State, empty, fresh}
 use Rattle.model.specs.Merge.{names, point-before}
-use Rattle.model.specs.Steps.{write-covers, put, delete, delete-range, merge-state, merge-all, no-slot}
+use Rattle.model.specs.Steps.{write-covers, put, delete, delete-range, merge-all, no-slot}
 use Rattle.model.specs.Lookup.{absent, found, Row, is-found, find, lookup-from, lookup}
 use Rattle.model.specs.Live.{SlotsLive}
 use Rattle.model.specs.Calls.{Op, written, flush, tick, Call, Outcome, early-refusal, out-of-slots, step, run, answers, refusals}
 use Rattle.model.specs.PlainMap.{PlainMap, get, has-key, changed, map-full, map-refusal, map-step, map-run, map-refusals, no-rows}
-use Rattle.model.proofs.Keeps.{merge-all-keeps}
 use Rattle.model.proofs.Form.{Formed}
 use Rattle.model.proofs.Slots.{Whole, step-whole, fresh-whole}
 use Rattle.model.proofs.StepView.{accepted-outcome, StepView, turned-away, refused-7, passed, step-view}

@@ -1,6 +1,6 @@
 -- Document 01: "Owed is the earliest clock of any delete that came into the level, itself or through merges, since the level was last emptied; 0 if none." Here what
 -- came is worked out from what happened in the calls, one thing after the other, and not from owed.
-use mathlib.Core.Bool.{Bool, cond, _||_}
+use mathlib.Core.Bool.{Bool, cond}
 use mathlib.Core.List.{List, [], _∷_, _++_}
 use Prim.Native.Nat.{ℕ, zero, suc, _-_}
 use lib.Dec.{eqb}

@@ -2,17 +2,17 @@
 use mathlib.Core.Path.{_≡_, _∙_}
 use mathlib.Core.Logic.{_≢_}
 use mathlib.Core.Bool.{true, _&&_, _||_}
-use mathlib.Core.List.{List, _++_}
+use mathlib.Core.List.{List}
 use Prim.Native.Nat.{ℕ, _+_, _*_, _≤_}
 use native.Mathlib.Omega.{arith}
-use lib.Dec.{eqb, leb}
+use lib.Dec.{eqb}
 use borrow.Author.Tests.{eqb-true, ne-eqb}
 use Rattle.lists.specs.All.{All}
 use Rattle.lists.proofs.Bools.{and-right, or-second}
-use Rattle.lists.proofs.Tests.{all-weaken, all-append}
+use Rattle.lists.proofs.Tests.{all-weaken}
 use Rattle.tables.specs.Slots.{slot-at, next-of, kind-of, lo-of, hi-of, tally-of, date-of, stamp-of, free-slot}
 use Rattle.tables.specs.Rows.{settings-of}
-use Rattle.tables.specs.Sound.{free-chain, point-chain, range-chain, is-free, is-point, is-range, table-refusal}
+use Rattle.tables.specs.Sound.{free-chain, point-chain, range-chain, is-free, is-point, table-refusal}
 use Rattle.tables.proofs.Linked.{free-written, range-parts}
 use Rattle.tables.proofs.SoundWords.{sound-facts}
 
