@@ -32,11 +32,23 @@ module _ (e : List ℕ) where
       cond-elim (λ l. length l ≤ suc k) (eqb h 0) [] (h ∷ chain k e (next-of e h)) (λ p. omega arith)
       (λ p. omega (arith, chain-short k (next-of e h)))
 
-  pub ascend-any : (least : ℕ) (ss : List ℕ) → ascend e least ss ≡ true → ascend e 0 ss ≡ true
+  -- What ascends from some least key on does so from an earlier one; so does what is left where the first few are dropped.
+  pub ascend-weaken : (less least : ℕ) (ss : List ℕ) → less ≤ least → ascend e least ss ≡ true → ascend e less ss ≡ true
   unfolding ascend
-  ascend-any least [] a = refl
-  ascend-any least (s ∷ ss) a =
-      and-intro (leb 0 (order-key e s)) (ascend e (order-key e s + 1) ss) (le-leb 0 (order-key e s) (omega arith))
+  ascend-weaken less least [] le a = refl
+  ascend-weaken less least (s ∷ ss) le a =
+      let up = and-left (leb least (order-key e s)) (ascend e (order-key e s + 1) ss) a in
+      and-intro (leb less (order-key e s)) (ascend e (order-key e s + 1) ss) (le-leb less (order-key e s) (omega (arith, leb-true least (order-key e s) up)))
+      (and-right (leb least (order-key e s)) (ascend e (order-key e s + 1) ss) a)
+
+  pub ascend-any : (least : ℕ) (ss : List ℕ) → ascend e least ss ≡ true → ascend e 0 ss ≡ true
+  ascend-any least ss a = ascend-weaken 0 least ss (omega arith) a
+
+  pub ascend-rest : (least s : ℕ) (ss : List ℕ) → ascend e least (s ∷ ss) ≡ true → ascend e least ss ≡ true
+  unfolding ascend
+  ascend-rest least s ss a =
+      let up = and-left (leb least (order-key e s)) (ascend e (order-key e s + 1) ss) a in
+      ascend-weaken least (order-key e s + 1) ss (omega (arith, leb-true least (order-key e s) up))
       (and-right (leb least (order-key e s)) (ascend e (order-key e s + 1) ss) a)
 
   pub chain-end : (h : ℕ) → h ≡ 0 → chain-from e h ≡ []
@@ -86,5 +98,10 @@ module _ (e : List ℕ) (words : Fits32 e) where
       )
 
   -- Nothing behind a record whose lo is past the docket is for the docket.
+  pub ascend-past : (k least s : ℕ) (ss : List ℕ) → k < lo-of e s → ascend e least (s ∷ ss) ≡ true → All (λ s. k < lo-of e s) (s ∷ ss)
+  unfolding ascend
+  ascend-past k least s ss lt a =
+      (lt, all-past k (order-key e s + 1) ss (omega arith) (and-right (leb least (order-key e s)) (ascend e (order-key e s + 1) ss) a))
+
   pub past : (h k : ℕ) → On e h → k < lo-of e h → All (λ s. k < lo-of e s) (chain-from e h)
   past h k on lt = rw (on .whole) (lt, all-past k (order-key e h + 1) (chain-from e (next-of e h)) (omega arith) (on .after))

@@ -10,15 +10,13 @@ use lib.Dec.{eqb, leb, ltb}
 use lib.ListN.{length}
 use Rattle.lists.specs.Lists.{any}
 use Rattle.lists.proofs.Bools.{cond-elim, and-right}
-use Rattle.model.specs.Merge.{range-covers}
-use Rattle.model.proofs.Coverage.{covers-past}
-use Rattle.tables.specs.Slots.{next-of, lo-of, hi-of}
+use Rattle.tables.specs.Slots.{next-of, lo-of}
 use Rattle.tables.specs.Sound.{chain-from, ascend, order-key}
-use Rattle.tables.specs.Placed.{read-point, read-range}
+use Rattle.tables.specs.Placed.{read-point}
 use Rattle.chain_cover.specs.Walks.{Walkable, Ordered}
-use Rattle.chain_cover.specs.Skips.{drop-while, first-slot, from-bound, beginning, reaching, Ahead}
+use Rattle.chain_cover.specs.Skips.{drop-while, first-slot, from-bound, beginning, Ahead}
 use Rattle.chain_cover.proofs.Chains.{On, chain-is, chain-short, chain-end, ascend-any}
-use Rattle.chain_cover.proofs.Walks.{ranges-say, points-name}
+use Rattle.chain_cover.proofs.Walks.{points-name}
 
 -- A chain that ends in the table, in order.
 record Whole (e : List ℕ) (h : ℕ) (ss : List ℕ) : Type 0 where
@@ -85,17 +83,11 @@ module _ (e : List ℕ) (bound : ℕ → ℕ) (h k : ℕ) (o : Ordered e h) wher
     pub front-ahead : Ahead e bound r k
     front-ahead = record { ordered = front-ordered; first = λ some. rw is (front-first bound k (chain-from e h) (rw is at some)) }
 
--- Ranges that end before docket k cover no docket from it on; points that lie before it have none.
-module _ (e : List ℕ) (h k : ℕ) (o : Ordered e h) (r : ℕ) where
-  pub skip-says : r ≡ first-slot (reaching e k (chain-from e h)) → (j : ℕ) → k ≤ j → ranges-say e h j ≡ ranges-say e r j
-  skip-says is j le =
-      rw (front-chain e (hi-of e) h k o r is)
-      (front-any (read-range e) (λ q. range-covers q j) (hi-of e) k (λ s lt. covers-past (lo-of e s) (hi-of e s) j (omega arith)) (chain-from e h))
-
-  pub seek-names : r ≡ first-slot (beginning e k (chain-from e h)) → (j : ℕ) → k ≤ j → points-name e h j ≡ points-name e r j
-  seek-names is j le =
-      rw (front-chain e (lo-of e) h k o r is)
-      (front-any (read-point e) (λ p. eqb (p .key) j) (lo-of e) k (λ s lt. ne-eqb (lo-of e s) j (λ q. omega arith)) (chain-from e h))
+-- Points that lie before docket k have no docket from it on.
+pub seek-names : (e : List ℕ) (h k : ℕ) (o : Ordered e h) (r : ℕ) → r ≡ first-slot (beginning e k (chain-from e h)) → (j : ℕ) → k ≤ j → points-name e h j ≡ points-name e r j
+seek-names e h k o r is j le =
+    rw (front-chain e (lo-of e) h k o r is)
+    (front-any (read-point e) (λ p. eqb (p .key) j) (lo-of e) k (λ s lt. ne-eqb (lo-of e s) j (λ q. omega arith)) (chain-from e h))
 
 -- Each turn of a walk, and each way out of it.
 module _ (e : List ℕ) (bound : ℕ → ℕ) (h k : ℕ) where

@@ -5,25 +5,46 @@ use mathlib.Core.List.{List, [], _∷_, map}
 use Prim.Native.Nat.{ℕ, _<_, _≤_}
 use native.Mathlib.Omega.{arith}
 use native.Mathlib.Decide.{decLt}
-use borrow.Author.Tests.{eq-eqb, ne-eqb}
-use lib.Dec.{eqb}
+use borrow.Author.Tests.{eq-eqb, ne-eqb, le-leb, leb-true}
+use lib.Dec.{eqb, leb}
 use Rattle.lists.specs.All.{All}
 use Rattle.lists.specs.Lists.{any}
-use Rattle.model.specs.Coverage.{covers}
+use Rattle.lists.proofs.Bools.{by-cases, both-false, bool-ext}
+use Rattle.model.specs.Coverage.{over, covers}
 use Rattle.model.specs.Merge.{covered, names}
-use Rattle.model.proofs.Coverage.{covers-inside, covers-before}
-use Rattle.tables.specs.Slots.{next-of, lo-of, hi-of}
+use Rattle.model.proofs.Coverage.{over-before, over-past, covers-true, covers-parts}
+use Rattle.tables.specs.Slots.{next-of, lo-of, hi-of, date-of}
 use Rattle.tables.specs.Words.{Fits32}
 use Rattle.tables.specs.Sound.{chain-from}
 use Rattle.tables.specs.Placed.{read-point, read-range}
 use Rattle.chain_cover.proofs.Chains.{On, chain-end, past}
 
--- What the ranges of some slots, and of the chain from h, say of docket k; and what the points do.
-abbrev pub slots-say : List ℕ → List ℕ → ℕ → Bool
-slots-say e ss k = covered (map (read-range e) ss) k
+-- A range that is not over the docket covers nothing of it; of one that is, the date decides.
+module _ (lo hi date k t : ℕ) where
+  covers-off : over lo hi k ≡ false → covers lo hi date k t ≡ false
+  covers-off off = by-cases (covers lo hi date k t) (λ is. both-false (covers-parts lo hi date k t is .0) off) (λ not. not)
 
-abbrev pub ranges-say : List ℕ → ℕ → ℕ → Bool
-ranges-say e h k = slots-say e (chain-from e h) k
+  pub covers-before : k < lo → covers lo hi date k t ≡ false
+  covers-before lt = covers-off (over-before lo hi k lt)
+
+  pub covers-past : hi < k → covers lo hi date k t ≡ false
+  covers-past lt = covers-off (over-past lo hi k lt)
+
+  pub covers-inside : over lo hi k ≡ true → leb t date ≡ covers lo hi date k t
+  covers-inside on =
+      bool-ext (leb t date) (covers lo hi date k t) (λ is. covers-true lo hi date k t on (leb-true t date is))
+      (λ is. le-leb t date (covers-parts lo hi date k t is .1))
+
+-- The same of words that were read.
+pub covers-read : (lo hi date lo′ hi′ date′ k t : ℕ) (says : Bool) → lo ≡ lo′ → hi ≡ hi′ → date ≡ date′ → says ≡ covers lo hi date k t → covers lo′ hi′ date′ k t ≡ says
+covers-read lo hi date lo′ hi′ date′ k t says p q r s = cc
+
+-- What the ranges of some slots, and of the chain from h, say of a record of docket k with stamp t; and what the points do of the docket.
+abbrev pub slots-say : List ℕ → List ℕ → ℕ → ℕ → Bool
+slots-say e ss k t = covered (map (read-range e) ss) k t
+
+abbrev pub ranges-say : List ℕ → ℕ → ℕ → ℕ → Bool
+ranges-say e h k t = slots-say e (chain-from e h) k t
 
 abbrev pub slots-name : List ℕ → List ℕ → ℕ → Bool
 slots-name e ss k = names (map (read-point e) ss) k
@@ -32,47 +53,32 @@ abbrev pub points-name : List ℕ → ℕ → ℕ → Bool
 points-name e h k = slots-name e (chain-from e h) k
 
 -- Records past the docket do not cover it, and do not have it.
-covered-past : (e : List ℕ) (k : ℕ) (ss : List ℕ) → All (λ s. k < lo-of e s) ss → slots-say e ss k ≡ false
+pub covered-past : (e : List ℕ) (k t : ℕ) (ss : List ℕ) → All (λ s. k < lo-of e s) ss → slots-say e ss k t ≡ false
 unfolding any
-covered-past e k [] a = refl
-covered-past e k (s ∷ ss) a = rw (covers-before (lo-of e s) (hi-of e s) k (omega arith)) (covered-past e k ss (a .1))
+covered-past e k t [] a = refl
+covered-past e k t (s ∷ ss) a = rw (covers-before (lo-of e s) (hi-of e s) (date-of e s) k t (a .0)) (covered-past e k t ss (a .1))
 
 named-past : (e : List ℕ) (k : ℕ) (ss : List ℕ) → All (λ s. k < lo-of e s) ss → slots-name e ss k ≡ false
 unfolding any
 named-past e k [] a = refl
 named-past e k (s ∷ ss) a = rw (ne-eqb (lo-of e s) k (λ q. omega arith)) (named-past e k ss (a .1))
 
-module _ (e : List ℕ) (h k : ℕ) where
-  pub ranges-end : h ≡ 0 → ranges-say e h k ≡ false
+-- One range more.
+module _ (e : List ℕ) (s : ℕ) (ss : List ℕ) (k t : ℕ) where
+  pub slots-here : covers (lo-of e s) (hi-of e s) (date-of e s) k t ≡ true → slots-say e (s ∷ ss) k t ≡ true
   unfolding any
-  ranges-end z = rw (chain-end e h z)
+  slots-here q = rw q
 
+  pub slots-next : covers (lo-of e s) (hi-of e s) (date-of e s) k t ≡ false → slots-say e (s ∷ ss) k t ≡ slots-say e ss k t
+  unfolding any
+  slots-next q = rw q
+
+module _ (e : List ℕ) (h k : ℕ) where
   pub points-end : h ≡ 0 → points-name e h k ≡ false
   unfolding any
   points-end z = rw (chain-end e h z)
 
   module _ (on : On e h) where
-    pub ranges-past : Fits32 e → k < lo-of e h → ranges-say e h k ≡ false
-    ranges-past words lt = covered-past e k (chain-from e h) (past e words h k on lt)
-
-    pub ranges-here : covers (lo-of e h) (hi-of e h) k ≡ true → ranges-say e h k ≡ true
-    unfolding any
-    ranges-here q = rw (on .whole, q)
-
-    pub ranges-next : covers (lo-of e h) (hi-of e h) k ≡ false → ranges-say e h k ≡ ranges-say e (next-of e h) k
-    unfolding any
-    ranges-next q = rw (on .whole, q)
-
-    -- Where the first range has not ended, it decides: if it begins past the docket, so do all.
-    pub ranges-first : Fits32 e → k ≤ hi-of e h → covers (lo-of e h) (hi-of e h) k ≡ ranges-say e h k
-    ranges-first words reach = go (decLt k (lo-of e h))
-      where
-        go : Dec (k < lo-of e h) → covers (lo-of e h) (hi-of e h) k ≡ ranges-say e h k
-        go (yes lt) = rw (ranges-past words lt) (covers-before (lo-of e h) (hi-of e h) k lt)
-        go (no ge) =
-            let here = covers-inside (lo-of e h) (hi-of e h) k (omega arith) reach in
-            rw (ranges-here here) here
-
     pub points-here : eqb (lo-of e h) k ≡ true → points-name e h k ≡ true
     unfolding any
     points-here q = rw (on .whole, q)
@@ -84,3 +90,18 @@ module _ (e : List ℕ) (h k : ℕ) where
         go : Dec (k < lo-of e h) → eqb (lo-of e h) k ≡ points-name e h k
         go (yes lt) = rw (named-past e k (chain-from e h) (past e words h k on lt)) (ne-eqb (lo-of e h) k (λ q. omega arith))
         go (no ge) = let here = eq-eqb (lo-of e h) k (omega arith) in rw (points-here here) here
+
+module _ (e : List ℕ) (h k t : ℕ) where
+  pub ranges-end : h ≡ 0 → ranges-say e h k t ≡ false
+  unfolding any
+  ranges-end z = rw (chain-end e h z)
+
+  module _ (on : On e h) where
+    pub ranges-past : Fits32 e → k < lo-of e h → ranges-say e h k t ≡ false
+    ranges-past words lt = covered-past e k t (chain-from e h) (past e words h k on lt)
+
+    pub ranges-here : covers (lo-of e h) (hi-of e h) (date-of e h) k t ≡ true → ranges-say e h k t ≡ true
+    ranges-here q = rw (on .whole) (slots-here e h (chain-from e (next-of e h)) k t q)
+
+    pub ranges-next : covers (lo-of e h) (hi-of e h) (date-of e h) k t ≡ false → ranges-say e h k t ≡ ranges-say e (next-of e h) k t
+    ranges-next q = rw (on .whole) (slots-next e h (chain-from e (next-of e h)) k t q)

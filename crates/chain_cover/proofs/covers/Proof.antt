@@ -1,15 +1,19 @@
--- `chain_cover::covers`: from lo on the test of hi decides, and before lo the docket is not covered.
+-- `chain_cover::covers`: before lo the docket is not covered, from lo on the tests of hi and of the date decide.
 use mathlib.Core.Path.{sym, _∙_}
 use borrow.Author.Tests.{lt-leb}
-use Rattle.model.proofs.Coverage.{covers-before, covers-from}
+use Rattle.model.proofs.Coverage.{over-inside}
+use Rattle.chain_cover.proofs.Walks.{covers-before, covers-past, covers-inside}
 use Rattle.chain_cover.proofs.covers.Statement.{statement}
 use Rattle.chain_cover.proofs.covers.Tie as tie
 
 returns : tie.Need-returns
-returns c = sym (covers-from _ _ _ (c .if1 .taken))
+returns c = sym (covers-before _ _ _ _ _ (c .if1 .taken))
 
 returns-2 : tie.Need-returns-2
-returns-2 c = lt-leb _ _ (c .if1 .left) ∙ sym (covers-before _ _ _ (c .if1 .left))
+returns-2 c = covers-inside _ _ _ _ _ (over-inside _ _ _ (c .before .if1 .left) (c .if2 .taken))
+
+returns-3 : tie.Need-returns-3
+returns-3 c = lt-leb _ _ (c .if2 .left) ∙ sym (covers-past _ _ _ _ _ (c .if2 .left))
 
 pub covers-spec : {M : Type 1} → statement M
-covers-spec = tie.close (tie.spec returns returns-2)
+covers-spec = tie.close (tie.spec returns returns-2 returns-3)

@@ -1,38 +1,35 @@
--- `chain_cover::is_covered`: the loop keeps true that the chain from `at` is ordered and its ranges say of the docket what those from `head` say.
+-- `chain_cover::is_covered`: the loop keeps true that the chain from `at` is ordered and its ranges say of the record what those from `head` say.
 use mathlib.Core.Path.{_≡_, refl, sym, _∙_}
-use mathlib.Core.Bool.{Bool}
-use Prim.Native.Nat.{ℕ}
 use native.Mathlib.Omega.{arith}
 use borrow.Author.Needs.{needs}
 use lib.ListN.{length}
 use Rattle.model.specs.Coverage.{covers}
-use Rattle.tables.specs.Slots.{lo-of, hi-of}
+use Rattle.tables.specs.Slots.{lo-of, hi-of, date-of}
 use Rattle.tables.specs.Sound.{chain-from}
 use Rattle.chain_cover.specs.Walks.{Ordered}
-use Rattle.chain_cover.proofs.Walks.{ranges-say, ranges-end, ranges-past, ranges-here, ranges-next}
+use Rattle.chain_cover.proofs.Walks.{covers-read, ranges-say, ranges-end, ranges-past, ranges-here, ranges-next}
 use Rattle.chain_cover.proofs.Chains.{On, go-on, shorter}
 use Rattle.chain_cover.proofs.is_covered.Statement.{statement}
 use Rattle.chain_cover.proofs.is_covered.Tie as tie
 
 abbrev Inv-loop : tie.InvT-loop
-Inv-loop e head docket at₀ at = Ordered e at × (ranges-say e at docket ≡ ranges-say e head docket)
+Inv-loop e head docket stamp at₀ at = Ordered e at × (ranges-say e at docket stamp ≡ ranges-say e head docket stamp)
 
 abbrev μ-loop : tie.MeasureT-loop
-μ-loop e head docket at₀ at = length (chain-from e at)
+μ-loop e head docket stamp at₀ at = length (chain-from e at)
 
 -- The turn that the code is in, seen from where its record was asked; the chain there; and what the record said.
 abbrev turn : tie.After-covers Inv-loop μ-loop → tie.In-loop Inv-loop μ-loop
-turn c = c .before .before .before .before
+turn c = c .before .before .before .before .before
 
 on : (c : tie.In-loop Inv-loop μ-loop) → On (c .before .before .before .args .e .now) (c .before .loop .at)
 on c = go-on _ _ (c .before .loop .inv .0) (c .loop-test .taken)
 
-told : (lo hi lo′ hi′ k : ℕ) (says : Bool) → lo ≡ lo′ → hi ≡ hi′ → says ≡ covers lo hi k → covers lo′ hi′ k ≡ says
-told lo hi lo′ hi′ k says p q r = cc
-
 said : (c : tie.After-covers Inv-loop μ-loop) → let s = turn c .before .before .before .args in let at = turn c .before .loop .at in
-    covers (lo-of (s .e .now) at) (hi-of (s .e .now) at) (s .docket) ≡ c .covers .result
-said c = told _ _ _ _ _ _ (c .before .before .before .lo-of .ensures) (c .before .hi-of .ensures) (c .covers .ensures)
+    covers (lo-of (s .e .now) at) (hi-of (s .e .now) at) (date-of (s .e .now) at) (s .docket) (s .stamp) ≡ c .covers .result
+said c =
+    covers-read _ _ _ _ _ _ _ _ _ (c .before .before .before .before .lo-of .ensures) (c .before .before .hi-of .ensures) (c .before .date-of .ensures)
+    (c .covers .ensures)
 
 loop-holds : tie.Need-loop-holds Inv-loop μ-loop
 loop-holds c = (c .before .pre, refl)
@@ -44,11 +41,14 @@ returns : tie.Need-returns Inv-loop μ-loop
 returns c =
     let test = c .before .before in
     let known = test .before .before in
-    sym (ranges-past _ _ _ (on test) (λ i. omega (arith, known .shared-slice-known .given i)) (omega (arith, c .before .lo-of .ensures)))
+    sym (ranges-past _ _ _ _ (on test) (λ i. omega (arith, known .shared-slice-known .given i)) (omega (arith, c .before .lo-of .ensures)))
     ∙ test .before .loop .inv .1
 
 hi-of-requires : tie.Need-hi-of-requires Inv-loop μ-loop
 hi-of-requires c κs = on (c .before .before) .within
+
+date-of-requires : tie.Need-date-of-requires Inv-loop μ-loop
+date-of-requires c κs = on (c .before .before .before) .within
 
 covers-requires : tie.Need-covers-requires Inv-loop μ-loop
 covers-requires c κs = search needs
@@ -56,7 +56,7 @@ covers-requires c κs = search needs
 returns-2 : tie.Need-returns-2 Inv-loop μ-loop
 returns-2 c =
     let asked = c .before in
-    sym (ranges-here _ _ _ (on (turn asked)) (said asked ∙ c .if2 .taken)) ∙ turn asked .before .loop .inv .1
+    sym (ranges-here _ _ _ _ (on (turn asked)) (said asked ∙ c .if2 .taken)) ∙ turn asked .before .loop .inv .1
 
 next-of-requires : tie.Need-next-of-requires Inv-loop μ-loop
 next-of-requires c κs = on (turn (c .before)) .within
@@ -68,12 +68,12 @@ loop-again : tie.Need-loop-again Inv-loop μ-loop
 loop-again c =
     let asked = c .before .before in
     rw (c .next-of .ensures)
-    (on (turn asked) .rest, sym (ranges-next _ _ _ (on (turn asked)) (said asked ∙ c .before .if2 .left)) ∙ turn asked .before .loop .inv .1)
+    (on (turn asked) .rest, sym (ranges-next _ _ _ _ (on (turn asked)) (said asked ∙ c .before .if2 .left)) ∙ turn asked .before .loop .inv .1)
 
 returns-3 : tie.Need-returns-3 Inv-loop μ-loop
 returns-3 c =
     let start = c .before .before .before in
-    sym (ranges-end (start .args .e .now) (c .before .loop .at) (start .args .docket) (c .loop-test .left)) ∙ c .before .loop .inv .1
+    sym (ranges-end (start .args .e .now) (c .before .loop .at) (start .args .docket) (start .args .stamp) (c .loop-test .left)) ∙ c .before .loop .inv .1
 
 pub is-covered-spec : {M : Type 1} → statement M
 is-covered-spec =
@@ -85,6 +85,7 @@ is-covered-spec =
     lo-of-requires
     returns
     hi-of-requires
+    date-of-requires
     covers-requires
     returns-2
     next-of-requires
