@@ -17,10 +17,10 @@ module _ (which : Doomed) (c : Cell) where
   pub by-kind : (kind : ℕ) → which ≡ Deletes → kind ≡ c .kind → eqb kind 2 ≡ doomed which c
   by-kind kind q k = rw (q, k)
 
-module _ (which : Doomed) (c : Cell) (lo hi key : ℕ) (key≡ : key ≡ cell-lo c) where
-  pub by-docket : (k : ℕ) → which ≡ Docket k → eqb key k ≡ doomed which c
-  by-docket k q = rw (q, ← key≡)
+  pub by-docket : (key k : ℕ) → which ≡ Docket k → key ≡ cell-lo c → eqb key k ≡ doomed which c
+  by-docket key k q key≡ = rw (q, key≡)
 
+module _ (which : Doomed) (c : Cell) (lo hi key : ℕ) (key≡ : key ≡ cell-lo c) where
   pub by-cover : (date stamp : ℕ) (says : Bool) → which ≡ Covered lo hi date → stamp ≡ c .stamp → says ≡ covers lo hi date key stamp → says ≡ doomed which c
   by-cover date stamp says q t s = rw (q, ← key≡, ← t) s
 

@@ -19,10 +19,10 @@ use Rattle.tables.specs.Slots.{Slot, first-free}
 use Rattle.tables.specs.Placed.{Cell, free-cell, point-cell, range-cell, head}
 use Rattle.tables.proofs.Cells.{Chained}
 use Rattle.chain_sieve.specs.Doomed.{doomed}
-use Rattle.chain_sieve.specs.declared.Doomed.the-variants.{Points, Range}
+use Rattle.chain_sieve.specs.declared.Doomed.the-variants.{Range}
 use Rattle.merge_levels.specs.Laid.{Store, Laid}
 use Rattle.merge_levels.proofs.Store.{laid-formed}
-use Rattle.write_record.specs.Records.{record-of}
+use Rattle.write_record.specs.Records.{record-of, displaced-points}
 use Rattle.write_record.specs.declared.Record.{Record}
 use Rattle.write_record.proofs.OneLevel.{level-out}
 use Rattle.write_record.proofs.SingleMerges.{no-range-gone}
@@ -55,7 +55,7 @@ module _ {g : Store} {e l : List ℕ} (laid : Laid g e l) (v : Write ℕ) {w : R
 
   -- The same, in the cells that the code looks for.
   abbrev point-cells-gone : List Cell
-  point-cells-gone = select (doomed (Points (w .lo) (w .hi))) (map point-cell (level 0 (g .state) .points))
+  point-cells-gone = select (doomed (displaced-points w)) (map point-cell (level 0 (g .state) .points))
 
   abbrev range-cells-gone : List Cell
   range-cells-gone = select (doomed (Range (w .lo) (w .hi))) (map range-cell (level 0 (g .state) .ranges))
@@ -69,7 +69,7 @@ module _ {g : Store} {e l : List ℕ} (laid : Laid g e l) (v : Write ℕ) {w : R
   points-none : {s : ℕ} → s ≡ head point-cells-gone → eqb s 0 ≡ none (point-slots points-gone-of)
   points-none q =
       ap (λ (k : ℕ). eqb k 0) q
-      ∙ selected-none (g .slots) e (doomed (Points (w .lo) (w .hi))) (map point-cell (level 0 (g .state) .points)) (level-out laid 0 .holds .each .1 .0)
+      ∙ selected-none (g .slots) e (doomed (displaced-points w)) (map point-cell (level 0 (g .state) .points)) (level-out laid 0 .holds .each .1 .0)
       ∙ ap none (points-gone tt (g .time) v w is (level 0 (g .state) .points) (laid-formed g e l laid 0 .keys))
       ∙ none-map point-cell points-gone-of ∙ sym (none-map (λ (p : model.Point ℕ ℕ). p .slot) points-gone-of)
 

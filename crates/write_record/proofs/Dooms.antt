@@ -11,33 +11,31 @@ use Rattle.lists.proofs.Bools.{eqb-sym}
 use Rattle.lists.proofs.Tests.{all-weaken}
 use Rattle.model.specs.Records as model
 use Rattle.model.specs.Records.{Point}
-use Rattle.model.specs.Coverage.{covers}
 use Rattle.model.specs.Merge.{point-goes, range-goes}
 use Rattle.model.specs.Steps.{Write, single}
 use Rattle.tables.specs.Placed.{point-cell, range-cell}
 use Rattle.chain_cells.specs.Cells.{cell-hi}
 use Rattle.chain_sieve.specs.Doomed.{doomed}
-use Rattle.chain_sieve.specs.declared.Doomed.the-variants.{Points, Range}
+use Rattle.chain_sieve.specs.declared.Doomed.the-variants.{Range}
 use Rattle.merge_join.proofs.Maps.{select-map-where, reject-map-where}
 use Rattle.merge_join.proofs.Spans.{span-lo, span-hi}
-use Rattle.merge_join.proofs.Points.{Keyed, point-lo}
+use Rattle.merge_join.proofs.Points.{Keyed}
 use Rattle.merge_join.proofs.Ranges.{Spanned}
-use Rattle.write_record.specs.Records.{record-of}
+use Rattle.write_record.specs.Records.{record-of, displaced-points}
 use Rattle.write_record.specs.declared.Record.{Record}
 use Rattle.write_record.proofs.Singles.{single-goes, single-range-goes}
 
 module _ {S : Type 0} (x : S) (t : ℕ) (v : Write ℕ) (w : Record) (is : w ≡ record-of v) where
   -- A point's cell passes the test where the write makes the point go.
-  point-doomed : (p : Point ℕ ℕ) → Keyed p → doomed (Points (w .lo) (w .hi)) (point-cell p) ≡ point-goes (single x t v) p
-  point-doomed p low =
-      ap (λ (k : ℕ). covers (w .lo) (w .hi) k) (point-lo p low) ∙ ap (λ (r : Record). covers (r .lo) (r .hi) (p .key)) is ∙ sym (single-goes x t v p)
+  point-doomed : (p : Point ℕ ℕ) → Keyed p → doomed (displaced-points w) (point-cell p) ≡ point-goes (single x t v) p
+  point-doomed p low = ap (λ (r : Record). doomed (displaced-points r) (point-cell p)) is ∙ single-goes x t v p low
 
   module _ (ps : List (Point ℕ ℕ)) (keys : All Keyed ps) where
-    pub points-gone : select (doomed (Points (w .lo) (w .hi))) (map point-cell ps) ≡ map point-cell (select (point-goes (single x t v)) ps)
-    points-gone = select-map-where point-cell (doomed (Points (w .lo) (w .hi))) (point-goes (single x t v)) ps (all-weaken Keyed _ point-doomed ps keys)
+    pub points-gone : select (doomed (displaced-points w)) (map point-cell ps) ≡ map point-cell (select (point-goes (single x t v)) ps)
+    points-gone = select-map-where point-cell (doomed (displaced-points w)) (point-goes (single x t v)) ps (all-weaken Keyed _ point-doomed ps keys)
 
-    pub points-left : reject (doomed (Points (w .lo) (w .hi))) (map point-cell ps) ≡ map point-cell (reject (point-goes (single x t v)) ps)
-    points-left = reject-map-where point-cell (doomed (Points (w .lo) (w .hi))) (point-goes (single x t v)) ps (all-weaken Keyed _ point-doomed ps keys)
+    pub points-left : reject (doomed (displaced-points w)) (map point-cell ps) ≡ map point-cell (reject (point-goes (single x t v)) ps)
+    points-left = reject-map-where point-cell (doomed (displaced-points w)) (point-goes (single x t v)) ps (all-weaken Keyed _ point-doomed ps keys)
 
   -- And a range's cell, where the write is a range delete.
   range-doomed : (q : model.Range ℕ) → w .kind ≡ 3 → Spanned q → doomed (Range (w .lo) (w .hi)) (range-cell q) ≡ range-goes (single x t v .ranges) q

@@ -2,20 +2,19 @@
 use mathlib.Core.Path.{_≡_, refl, ap, _∙_}
 use mathlib.Core.Logic.{_≢_}
 use mathlib.Core.Bool.{Bool, false, cond, not}
-use mathlib.Core.List.{List, [], _∷_, _++_, append-nil}
-use Prim.Native.Nat.{ℕ, _+_, _≤_}
+use mathlib.Core.List.{List, [], _∷_, _++_, append-nil, map}
+use Prim.Native.Nat.{ℕ, _+_}
 use native.Mathlib.Omega.{arith}
 use lib.Dec.{eqb}
 use lib.ListN.{length}
 use Rattle.lists.specs.Lists.{any, select, reject, merge}
-use Rattle.lists.specs.All.{All}
 use Rattle.lists.proofs.Tests.{select-never, select-same}
 use Rattle.model.specs.Records.{Range, Level, held}
-use Rattle.model.specs.Merge.{point-before, range-before, point-goes, range-goes, earlier, merged, point-slots, range-slots, gone}
+use Rattle.model.specs.Merge.{point-before, range-before, point-goes, range-goes, later, earlier, merged, point-slots, range-slots, gone}
 use Rattle.model.specs.Steps.{Write, single, unplaced}
 use Rattle.merge_join.proofs.Counts.{held-merged}
 use Rattle.write_record.specs.Records.{record-of}
-use Rattle.write_record.proofs.Singles.{single-no-range, single-held, single-owed, single-later, point-goes-alike, range-goes-alike}
+use Rattle.write_record.proofs.Singles.{single-no-range, single-held, single-owed, point-goes-alike, range-goes-alike}
 
 reject-never : {X : Type 0} (t : X → Bool) → ((x : X) → t x ≡ false) → (xs : List X) → reject t xs ≡ xs
 unfolding select
@@ -64,12 +63,10 @@ module _ (x t : ℕ) (v : Write ℕ) (l : Level ℕ ℕ) where
   unfolding merged
   entered-points = ap (merge point-before (single x t v .points)) left-alike
 
-  pub entered-ranges : All (λ q. (1 ≤ q .stamp) × (q .stamp ≤ t)) (l .ranges)
-      → merged (single x t v) l .ranges ≡ merge range-before (single x t v .ranges) (reject (range-goes (unplaced t v .ranges)) (l .ranges))
+  pub entered-ranges : merged (single x t v) l .ranges
+      ≡ merge range-before (map (later (l .ranges)) (single x t v .ranges)) (reject (range-goes (unplaced t v .ranges)) (l .ranges))
   unfolding merged
-  entered-ranges s =
-      ap (λ rs. merge range-before rs (reject (range-goes (single x t v .ranges)) (l .ranges))) (single-later x t v (l .ranges) s)
-      ∙ ap (merge range-before (single x t v .ranges)) ranges-left-alike
+  entered-ranges = ap (merge range-before (map (later (l .ranges)) (single x t v .ranges))) ranges-left-alike
 
   pub entered-held : held (merged (single x t v) l) + length (select (point-goes (unplaced t v)) (l .points))
       + length (select (range-goes (unplaced t v .ranges)) (l .ranges)) ≡ 1 + held l

@@ -1,2 +1,2 @@
--- What a write puts into a slot.
+-- What a write puts into a slot, and which points it makes go.
 pub mod Records

@@ -9,9 +9,9 @@ ghost use Prim.Native.Nat.{ℕ};
 ghost use Rattle.lists.specs.All.{Exists};
 ghost use Rattle.model.specs.Steps.{Write, crowded};
 ghost use Rattle.merge_levels.specs.Laid.{Store, Laid};
-ghost use Rattle.write_record.specs.Records.{record-of};
+ghost use Rattle.write_record.specs.Records.{record-of, displaced-points};
 
-// What a write puts into a slot beside its stamp.
+// What a write puts into a slot beside its stamp; the tally of a range delete is its date.
 pub struct Record {
     pub kind: u32,
     pub lo: u32,
@@ -29,11 +29,21 @@ pub fn is_crowded(e: &[u32], l: &[u32], w: Record) -> bool
         return false;
     }
     let buffer = level_at(l, 0);
-    if first_doomed(e, buffer.points, Doomed::Points(w.lo, w.hi)) != 0 {
+    if first_doomed(e, buffer.points, displaced_points(w)) != 0 {
         return false;
     }
     if w.kind != RANGE {
         return true;
     }
     first_doomed(e, buffer.ranges, Doomed::Range(w.lo, w.hi)) == 0
+}
+
+// The points that a write makes go: the one of its docket, or those that a range delete covers.
+pub fn displaced_points(w: Record) -> Doomed
+    ensures { λ r. ⌜ r ≡ displaced-points w ⌝ }
+{
+    if w.kind != RANGE {
+        return Doomed::Docket(w.lo);
+    }
+    Doomed::Covered(w.lo, w.hi, w.tally)
 }

@@ -50,7 +50,7 @@ returns-3 : tie.Need-returns-3
 returns-3 c = search needs
 
 returns-4 : tie.Need-returns-4
-returns-4 c = by-docket _ _ 0 0 _ (c .lo-of .ensures) _ (c .before .before .which .given .1)
+returns-4 c = by-docket _ _ _ _ (c .before .before .which .given .1) (c .lo-of .ensures)
 
 returns-5 : tie.Need-returns-5
 returns-5 c =

@@ -3,7 +3,7 @@ use mathlib.Core.Path.{_≡_, refl}
 use borrow.Author.Needs.{needs}
 use lib.ListN.{length}
 use Rattle.merge_strike.specs.Striking.{Meeting, MeetingHeld, Striking, left-of}
-use Rattle.merge_strike.proofs.Strikes.{strike-of, striking-begins, striking-ends}
+use Rattle.merge_strike.proofs.Strikes.{strike-of, upper-ranges, striking-begins, striking-ends}
 use Rattle.merge_strike.proofs.strike.Statement.{statement}
 use Rattle.merge_strike.proofs.strike.Tie as tie
 
@@ -15,7 +15,7 @@ abbrev μ-loop : tie.MeasureT-loop
 
 -- Where the code stands: at the entry, and in a turn, seen from its start and from its end.
 abbrev entry : tie.At-loop Inv-loop μ-loop → tie.Start Inv-loop μ-loop
-entry c = c .before .before
+entry c = c .before .before .before .before
 
 abbrev turn : tie.After-strike-step-arg Inv-loop μ-loop → tie.At-loop Inv-loop μ-loop
 turn c = c .before .before .before
@@ -23,8 +23,11 @@ turn c = c .before .before .before
 abbrev begun : tie.After-slice-known2 Inv-loop μ-loop → tie.After-strike-step-arg Inv-loop μ-loop
 begun c = c .before .before .before
 
+front-at-requires : tie.Need-front-at-requires Inv-loop μ-loop
+front-at-requires c κs = let h = c .before .before .pre in upper-ranges (h .value) _ _ _ _ (h .has)
+
 loop-holds : tie.Need-loop-holds Inv-loop μ-loop
-loop-holds c = (refl, λ g h. striking-begins g _ _ _ _ h)
+loop-holds c = (refl, λ g h. striking-begins g _ _ _ _ _ (c .front-at .ensures) h)
 
 strike-step-requires : tie.Need-strike-step-requires Inv-loop μ-loop
 strike-step-requires c κs =
@@ -52,6 +55,7 @@ strike-spec =
     (tie.spec
     Inv-loop
     μ-loop
+    front-at-requires
     loop-holds
     strike-step-requires
     loop-less

@@ -4,18 +4,21 @@ use Rattle.merge_strike.proofs.Strikes.{lower-in-table, points-walk, ra
 use Rattle.merge_strike.proofs.strike_step.Statement.{statement}
 use Rattle.merge_strike.proofs.strike_step.Tie as tie
 
--- Where the code stands: at the entry, where the docket is read, where the points and where both chains were moved.
+-- Where the code stands: at the entry, where the docket is read, where the points and where both chains were moved, where the stamp is read.
 abbrev entry : tie.After-lo-of → tie.Start
 entry c = c .before .before .before
 
 abbrev docket : tie.After-seek → tie.After-lo-of
 docket c = c .before .before
 
-abbrev points : tie.After-skip → tie.After-seek
+abbrev points : tie.After-advance → tie.After-seek
 points c = c .before .before
 
-abbrev moved : tie.After-slice-known2 → tie.After-is-struck
-moved c = c .before .before .before .before
+abbrev ranges : tie.After-stamp-of → tie.After-advance
+ranges c = c .before .before
+
+abbrev asked : tie.After-slice-known2 → tie.After-is-struck
+asked c = c .before .before .before .before
 
 lo-of-requires : tie.Need-lo-of-requires
 lo-of-requires c κs = lower-in-table _ _ _ (c .before .before .pre .0 .has)
@@ -23,16 +26,20 @@ lo-of-requires c κs = lower-in-table _ _ _ (c .before .before .pre .0 .has)
 seek-requires : tie.Need-seek-requires
 seek-requires c κs = points-walk _ _ _ (entry (c .before) .pre .0 .has)
 
-skip-requires : tie.Need-skip-requires
-skip-requires c κs = ranges-walk _ _ _ (entry (docket (c .before)) .pre .0 .has)
+advance-requires : tie.Need-advance-requires
+advance-requires c κs = ranges-walk _ _ _ (entry (docket (c .before)) .pre .0 .has)
+
+stamp-of-requires : tie.Need-stamp-of-requires
+stamp-of-requires c κs = lower-in-table _ _ _ (entry (docket (points (c .before))) .pre .0 .has)
 
 is-struck-requires : tie.Need-is-struck-requires
 is-struck-requires c κs =
-    let p = points (c .before) in
+    let r = ranges (c .before) in
+    let p = points r in
     let k = docket p in
     let w = entry k .pre .0 .has in (
-      points-asked _ _ _ w _ _ _ (k .lo-of .ensures) (p .seek .ensures) (c .before .skip .ensures),
-      ranges-asked _ _ _ w _ _ _ (k .lo-of .ensures) (p .seek .ensures) (c .before .skip .ensures),
+      points-asked _ _ _ w _ _ (k .lo-of .ensures) (p .seek .ensures),
+      ranges-asked _ _ _ w _ _ (k .lo-of .ensures) (p .seek .ensures) _ (r .advance .ensures),
     )
 
 sift-requires : tie.Need-sift-requires
@@ -43,11 +50,12 @@ same-length c = search needs
 
 returns : tie.Need-returns
 returns c =
-    let r = moved c .before .before in
+    let t = asked c .before .before in
+    let r = ranges t in
     let p = points r in
     let k = docket p in
-    λ g w. strikes g _ _ w _ _ _ (k .lo-of .ensures) (p .seek .ensures) (r .skip .ensures) (entry k .pre .1) _ _ _
-    (moved c .is-struck .ensures) (c .before .before .sift .ensures)
+    λ g w. strikes g _ _ w _ _ (k .lo-of .ensures) (p .seek .ensures) _ (r .advance .ensures) (entry k .pre .1) _ (t .stamp-of .ensures) _ _ _
+    (asked c .is-struck .ensures) (c .before .before .sift .ensures)
 
 pub strike-step-spec : {M : Type 1} → statement M
 strike-step-spec =
@@ -55,7 +63,8 @@ strike-step-spec =
     (tie.spec
     lo-of-requires
     seek-requires
-    skip-requires
+    advance-requires
+    stamp-of-requires
     is-struck-requires
     sift-requires
     same-length
