@@ -15,6 +15,7 @@ static const struct load {
     enum shape shape;
 } loads[] = {
     {"mixed", mixed_calls, MIXED}, {"lookup", "G", MIXED}, {"delete-heavy", "PPPPPPPPPDDDDDDDDDTT", MIXED}, {"range-heavy", "PPPPPRRRRT", MIXED},
+    {"dated", "PPPPPPPPPPYYYYYYYWTT", MIXED},
     {"full table", "PPPPPPPPDT", PUT_AT_RANDOM}, {"scan", "S", MIXED}, {"check", "C", MIXED},
 };
 

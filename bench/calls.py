@@ -1,4 +1,5 @@
-"""Runs the timing of whole calls and of scans in lookups, prints both as Markdown tables, and writes docs/BENCHMARK.md and docs/benchmark.svg."""
+"""Runs the timing of whole calls, of merges with range deletes and of scans in lookups, prints them as Markdown tables, and writes docs/BENCHMARK.md and
+docs/benchmark.svg."""
 import os
 import pathlib
 import subprocess
@@ -6,13 +7,14 @@ import subprocess
 import plot
 
 ROOT = pathlib.Path(__file__).parent.parent
-CALLS, SCANS = ROOT / "target" / "bench_calls", ROOT / "target" / "bench_scans"
+CALLS, MERGES, SCANS = (ROOT / "target" / f"bench_{name}" for name in ("calls", "merges", "scans"))
 REPORT, PLOT = ROOT / "docs" / "BENCHMARK.md", ROOT / "docs" / "benchmark.svg"
 MEANINGS = {
     "mixed": "40 % puts, 30 % lookups, 10 % deletes, 10 % ticks, 5 % range deletes, 5 % flushes; dockets half the slots",
     "lookup": "a docket, after as many mixed calls as slots",
     "delete-heavy": "45 % puts, 45 % deletes, 10 % ticks",
     "range-heavy": "50 % puts, 40 % range deletes of one to five dockets, 10 % ticks",
+    "dated": "50 % puts, 35 % range deletes of one to five dockets and 5 % of all, each with any date, 10 % ticks",
     "full table": "80 % puts, 10 % deletes, 10 % ticks on one docket more than slots, every slot taken at the start",
     "scan": "all dockets, with a row for each slot",
     "check": "the check that every call begins with, alone",
@@ -29,6 +31,21 @@ When this was measured the machine had {processors} processors and a load averag
 """
 
 
+FORMS = {
+    "narrow": "each over one live docket",
+    "one wide": "the same behind one over all dockets",
+    "eight wide": "the same behind eight, each over nearly all dockets",
+    "nested": "each within the one before, with a later date",
+}
+IN_MERGES = """## A tick that merges range deletes onto live dockets
+
+Half the slots are live dockets in the deepest level, the others range deletes in the level above; none covers a docket,
+since its date is before the put. Each tick is on a copy of the same tables; medians of 5 to 61 rounds. Two places in
+the chain of ranges, the first that has not ended and the first behind it that has not, keep narrow ranges under one
+wide one linear. Where two or more wide ranges overlap, the time grows with dockets × ranges.
+"""
+
+
 SHAPES = {
     "mixed calls": "half the slots' worth of dockets, then as many mixed calls as slots",
     "put at random": "every slot live, dockets put in random order",
@@ -39,6 +56,7 @@ SHAPES = {
     "two at random": "the same in two levels, which of them drawn for each docket",
     "seven at random": "the same in seven, L = 6",
     "ranges between": "half the slots live in the deepest level, between each two a range delete in the level above",
+    "and one wide": "the same with a range delete over all dockets, its date before every put",
     "put twice": "half the slots live: each docket in both of the two deepest levels",
 }
 IN_LOOKUPS = """## A scan of all live dockets, in lookups on the same tables
@@ -81,9 +99,9 @@ def table(head, rows):
     return "\n".join("| " + " | ".join(line) + " |" for line in lines) + "\n"
 
 
-def times(results):
+def times(results, head="Load"):
     rows = ([r.load, f"{r.slots:,}", f"{r.proved:,.3f}", f"{r.native:,.3f}", f"{r.ratio:.2f}", f"{1000 * r.proved / r.slots:.2f}"] for r in results)
-    return table(["Load", "N", "Proved, µs", "C, µs", "Ratio", "Proved, ns a slot"], rows)
+    return table([head, "N", "Proved, µs", "C, µs", "Ratio", "Proved, ns a slot"], rows)
 
 
 def meanings(head, words):
@@ -106,16 +124,17 @@ def scan_times(scans):
     return table(["Tables", "N", "Lookup, µs", "Scan, µs", "C's scan, µs", "Ratio"], rows)
 
 
-def report(results, scans, load):
-    parts = [HEAD.format(processors=os.cpu_count(), load=load), meanings(["Load", "What is timed"], MEANINGS), times(results), IN_LOOKUPS,
-             meanings(["Tables", "What they hold"], SHAPES), scans_in_lookups(scans), scan_times(scans)]
+def report(results, merges, scans, load):
+    parts = [HEAD.format(processors=os.cpu_count(), load=load), meanings(["Load", "What is timed"], MEANINGS), times(results),
+             IN_MERGES, meanings(["Range deletes", "What they are over"], FORMS), times(merges, "Range deletes"),
+             IN_LOOKUPS, meanings(["Tables", "What they hold"], SHAPES), scans_in_lookups(scans), scan_times(scans)]
     return "\n".join(parts)
 
 
 def main():
     load = os.getloadavg()[0]
-    results, scans = list(measure(CALLS, Measured)), list(measure(SCANS, Scanned))
-    page = report(results, scans, load)
+    results, merges, scans = list(measure(CALLS, Measured)), list(measure(MERGES, Measured)), list(measure(SCANS, Scanned))
+    page = report(results, merges, scans, load)
     print(page[page.index("| Load | N"):], end="")
     REPORT.write_text(page)
     PLOT.write_text(plot.picture(results))

@@ -15,10 +15,10 @@ static uint32_t order[MOST_SLOTS];
 static size_t taken;
 
 /* Takes the next slot, writes its row, and links it behind the one before or to the head. */
-static void append(uint32_t *head, uint32_t *last, uint32_t kind, uint32_t lo, uint32_t hi, uint32_t tally, uint32_t stamp) {
+static void append(uint32_t *head, uint32_t *last, uint32_t kind, uint32_t lo, uint32_t hi, uint32_t word, uint32_t stamp) {
     uint32_t slot = order[taken++];
     uint32_t *row = entries + 4 * slot;
-    row[0] = kind << 16, row[1] = lo | hi << 16, row[2] = tally, row[3] = stamp;
+    row[0] = kind << 16, row[1] = lo | hi << 16, row[2] = word, row[3] = stamp;
     if (*last != 0) entries[4 * *last] |= slot;
     else *head = slot;
     *last = slot;
@@ -49,8 +49,8 @@ static void fill(size_t slots, int scattered) {
         }
         last = 0;
         for (size_t i = 0; i < ranges; i++) {
-            uint32_t lo = (uint32_t)(i * 65536 / ranges);
-            append(&row[1], &last, 3, lo, lo + random_below(65536 - lo), 0, 500 + random_below(1000));
+            uint32_t lo = (uint32_t)(i * 65536 / ranges), stamp = 500 + random_below(1000);
+            append(&row[1], &last, 3, lo, lo + random_below(65536 - lo), random_between(1, stamp), stamp);
         }
         row[2] = (uint32_t)count, row[3] = level < DEEPEST && count ? 400 : 0;
         left -= count;

@@ -1,43 +1,53 @@
-/* Times three ways for a merge to ask whether an upper range is over a lower point, on loads with range deletes: the walk of the
-   range chain that stops past the docket, the same behind ranges that end before it, and a running maximum of hi. */
+/* Times two ways for a merge to ask whether an upper range covers a lower point, on loads with range deletes: the walk of the range chain
+   from the first that has not ended, and from two places, which leave what has ended behind under a wide range too. */
 #include "native_store.h"
 #include "random.h"
 #include "timing.h"
 
 #include <stdio.h>
 
-enum { MOST_SLOTS = 65535, DEEPEST = 3, LEVEL_WORDS = 4 * (DEEPEST + 2), CALLS = 20000, SEED = 1 };
+enum { MOST_SLOTS = 65535, DEEPEST = 3, LEVEL_WORDS = 4 * (DEEPEST + 2), CALLS = 20000, WIDE_SHARE = 50, SEED = 1 };
+
+enum dates { CLOCK, ANY, ANY_AND_WIDE };
+static const char *const date_names[] = {"clock", "any", "and wide"};
+
+/* Range deletes in so many of a hundred calls, of so many dockets more than one, the others puts. Their date is their clock or any before
+   it; and now and then there is one over all dockets with date 1. */
+static const struct load {
+    uint32_t slots, percent, width;
+    enum dates dates;
+} loads[] = {
+    {1000, 5, 10, CLOCK},   {1000, 50, 10, ANY},    {4000, 5, 10, CLOCK},    {4000, 50, 10, ANY},      {65535, 5, 10, CLOCK},  {65535, 5, 10, ANY},
+    {65535, 50, 10, CLOCK}, {65535, 50, 10, ANY},   {65535, 50, 1000, CLOCK}, {65535, 50, 1000, ANY},  {65535, 50, 20000, CLOCK}, {65535, 50, 20000, ANY},
+    {65535, 5, 10, ANY_AND_WIDE}, {65535, 50, 10, ANY_AND_WIDE},
+};
 
 static uint32_t entries[4 * (MOST_SLOTS + 1)], levels[LEVEL_WORDS];
 
-/* Microseconds a call: puts, and in so many of a hundred a range delete of so many dockets. */
-static double run(enum native_coverage coverage, int checks, uint32_t slots, uint32_t percent, uint32_t width) {
-    size_t words = 4 * (slots + 1);
-    native_coverage = coverage, native_checks = checks;
+/* Microseconds a call, without the check of both tables. */
+static double run(enum native_coverage coverage, const struct load *load) {
+    size_t words = 4 * ((size_t)load->slots + 1);
+    native_coverage = coverage, native_checks = 0;
     seed_random(SEED);
     native_make(entries, words, levels, LEVEL_WORDS, DEEPEST, 10, 64, 1000000);
     double begin = microseconds();
     for (uint32_t t = 1; t <= CALLS; t++) {
-        uint32_t docket = random_below(65536), hi = docket + width > 65535 ? 65535 : docket + width;
-        if (random_below(100) < percent) native_delete_range(entries, words, levels, LEVEL_WORDS, t, docket, hi);
+        uint32_t docket = random_below(65536), hi = docket + load->width > 65535 ? 65535 : docket + load->width;
+        uint32_t date = load->dates == CLOCK ? t : random_between(1, t);
+        if (load->dates == ANY_AND_WIDE && t % WIDE_SHARE == 0) native_delete_range_dated(entries, words, levels, LEVEL_WORDS, t, 0, 65535, 1);
+        else if (random_below(100) < load->percent) native_delete_range_dated(entries, words, levels, LEVEL_WORDS, t, docket, hi, date);
         else native_put(entries, words, levels, LEVEL_WORDS, t, docket, t);
     }
     return (microseconds() - begin) / CALLS;
 }
 
 int main(void) {
-    static const uint32_t sizes[] = {1000, 4000, 65535}, widths[] = {0, 10, 1000, 20000};
-    static const char *names[] = {"walk", "trimmed", "running"};
-    printf("%6s %6s %8s %10s %10s %10s %12s   (microseconds a call; the last with the check, trimmed)\n", "N", "% R", "width", names[0], names[1], names[2], "whole call");
-    for (size_t i = 0; i < sizeof sizes / sizeof *sizes; i++)
-        for (uint32_t percent = 5; percent <= 50; percent += 45)
-            for (size_t k = 0; k < sizeof widths / sizeof *widths; k++) {
-                printf("%6u %6u %8u", sizes[i], percent, widths[k]);
-                for (int c = NATIVE_WALK; c <= NATIVE_RUNNING; c++) printf(" %10.3f", run((enum native_coverage)c, 0, sizes[i], percent, widths[k]));
-                /* The check of the largest tables would take minutes here. */
-                if (sizes[i] > 4000) printf(" %12s\n", "-");
-                else printf(" %12.3f\n", run(NATIVE_TRIMMED, 1, sizes[i], percent, widths[k]));
-                fflush(stdout);
-            }
+    printf("%6s %5s %7s %9s %10s %10s   (microseconds a call)\n", "N", "% R", "width", "dates", "walk", "two places");
+    for (const struct load *load = loads; load < loads + sizeof loads / sizeof *loads; load++) {
+        printf("%6u %5u %7u %9s", load->slots, load->percent, load->width, date_names[load->dates]);
+        for (int c = NATIVE_WALK; c <= NATIVE_TWO_PLACES; c++) printf(" %10.3f", run((enum native_coverage)c, load));
+        printf("\n");
+        fflush(stdout);
+    }
     return 0;
 }

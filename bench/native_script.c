@@ -1,4 +1,4 @@
-/* The script program of document 01, written plainly in C: blocks read byte by byte, answers gathered, constant memory. */
+/* The script program, written plainly in C: blocks read byte by byte, answers gathered, constant memory. */
 #include "native_store.h"
 
 #include <stdbool.h>
@@ -19,6 +19,7 @@ static size_t length, waiting;
 static size_t field_count(uint8_t letter) {
     switch (letter) {
     case 'M': return 5;
+    case 'Y': return 4;
     case 'P': case 'R': return 3;
     case 'D': return 2;
     case 'F': case 'T': case 'G': return 1;
@@ -76,6 +77,7 @@ static struct native_answer run_line(void) {
     case 'P': return native_put(entries, entry_words, levels, level_words, n[0], n[1], n[2]);
     case 'D': return native_delete(entries, entry_words, levels, level_words, n[0], n[1]);
     case 'R': return native_delete_range(entries, entry_words, levels, level_words, n[0], n[1], n[2]);
+    case 'Y': return native_delete_range_dated(entries, entry_words, levels, level_words, n[0], n[1], n[2], n[3]);
     case 'F': return native_flush(entries, entry_words, levels, level_words, n[0]);
     case 'T': return native_tick(entries, entry_words, levels, level_words, n[0]);
     default: return run_lookup(n[0]);

@@ -5,7 +5,7 @@ from xml.sax.saxutils import escape
 WIDTH, HEIGHT = 960, 440
 TOP, BOTTOM, PANEL, LEFT, GAP = 48, 388, 340, 62, 78
 LEGEND = LEFT + 2 * PANEL + GAP + 24
-COLOURS = {"mixed": "#0072b2", "lookup": "#009e73", "delete-heavy": "#d55e00", "range-heavy": "#cc79a7", "full table": "#000000", "scan": "#e69f00", "check": "#56b4e9"}
+COLOURS = {"mixed": "#0072b2", "lookup": "#009e73", "delete-heavy": "#d55e00", "range-heavy": "#cc79a7", "dated": "#f0e442", "full table": "#000000", "scan": "#e69f00", "check": "#56b4e9"}
 LINE = 'fill="none" stroke-width="1.6"'
 DASHES = ' stroke-dasharray="5 3"'
 

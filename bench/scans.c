@@ -13,7 +13,7 @@
 enum { MOST_CALLS = 2000, ROUNDS = 41, SEED = 1, MOST_TABLES = 16 };
 
 static const char *const names[SHAPES] = {"mixed calls",    "put at random", "put ascending",   "two by turns",   "three by turns",
-                                          "seven by turns", "two at random", "seven at random", "ranges between", "put twice"};
+                                          "seven by turns", "two at random", "seven at random", "ranges between", "and one wide", "put twice"};
 
 static const struct size {
     uint32_t slots, calls, tables;

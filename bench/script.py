@@ -10,7 +10,7 @@ TARGET = pathlib.Path(__file__).parent.parent / "target"
 PROGRAMS = {"proved": TARGET / "bin" / "run_script", "C": TARGET / "native_script", "C again": TARGET / "native_script"}
 LINES, ROUNDS, SEED = 1000000, 12, 1
 MAKE = "M 100 3 4 8 1000"
-LETTERS = "P" * 40 + "D" * 12 + "R" * 5 + "F" * 3 + "T" * 10 + "G" * 30
+LETTERS = "P" * 40 + "D" * 12 + "R" * 3 + "Y" * 2 + "F" * 3 + "T" * 10 + "G" * 30
 WIDEST = 4
 # By how many dockets there are for the 100 slots.
 LOADS = (("half full", 50), ("full", 200))
@@ -22,8 +22,9 @@ def script(dockets):
     for _ in range(LINES - 1):
         clock += rng.getrandbits(1)
         letter, lo = rng.choice(LETTERS), rng.randrange(dockets)
-        numbers = {"P": (clock, lo, rng.getrandbits(32)), "D": (clock, lo), "R": (clock, lo, lo + rng.randint(0, WIDEST)), "F": (clock,), "T": (clock,), "G": (lo,)}[letter]
-        yield " ".join(map(str, (letter, *numbers)))
+        hi, date = lo + rng.randint(0, WIDEST), rng.randint(1, clock)
+        numbers = {"P": (clock, lo, rng.getrandbits(32)), "D": (clock, lo), "R": (clock, lo, hi), "Y": (clock, lo, hi, date), "F": (clock,), "T": (clock,), "G": (lo,)}
+        yield " ".join(map(str, (letter, *numbers[letter])))
 
 
 def seconds(program, load, output):

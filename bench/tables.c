@@ -4,9 +4,10 @@
 #include "native_store.h"
 #include "random.h"
 
+#include <stdbool.h>
 #include <string.h>
 
-enum { WIDEST = 4, PUT_KIND = 1, RANGE_KIND = 3 };
+enum { WIDEST = 4 };
 
 const char mixed_calls[] = "PPPPPPPPDDRFTTGGGGGG";
 
@@ -15,6 +16,8 @@ static enum kind kind_of(char letter) {
     case 'P': return PUT;
     case 'D': return DELETE;
     case 'R': return DELETE_RANGE;
+    case 'Y':
+    case 'W': return DELETE_RANGE_DATED;
     case 'F': return FLUSH;
     case 'T': return TICK;
     case 'G': return LOOKUP;
@@ -25,17 +28,26 @@ static enum kind kind_of(char letter) {
 
 struct call draw(const char *letters, uint32_t clock, uint32_t dockets, uint32_t slots) {
     uint32_t lo = random_below(dockets), hi = lo + random_below(WIDEST + 1);
-    enum kind kind = kind_of(letters[random_below((uint32_t)strlen(letters))]);
+    char letter = letters[random_below((uint32_t)strlen(letters))];
+    enum kind kind = kind_of(letter);
+    if (kind == DELETE_RANGE_DATED) {
+        uint32_t date = random_between(1, clock);
+        if (letter == 'W') lo = 0, hi = GUONTREM_MAX_DOCKET;
+        return (struct call){.kind = kind, .clock = clock, .lo = lo, .hi = hi, .date = date};
+    }
     if (kind == SCAN) return (struct call){.kind = SCAN, .lo = 0, .hi = GUONTREM_MAX_DOCKET, .row_count = slots};
     return (struct call){.kind = kind, .clock = clock, .lo = lo, .hi = hi < dockets ? hi : dockets - 1, .tally = random_word()};
 }
 
-/* A record of one docket, put before those of its chain: a put, or a range delete. */
-static void lay_record(struct store *s, uint32_t slot, uint32_t level, uint32_t kind, uint32_t docket) {
-    uint32_t *row = s->entries + 4 * slot, *in = s->levels + 4 * (level + 1), *first = in + (kind == RANGE_KIND);
-    row[0] = kind * 65536 + *first, row[1] = docket | docket << 16, row[2] = kind == PUT_KIND ? slot : 0, row[3] = 1;
+void lay_record(struct store *s, uint32_t slot, uint32_t level, struct record r) {
+    uint32_t *row = s->entries + 4 * slot, *in = s->levels + 4 * (level + 1), *first = in + (r.kind == RANGE_KIND);
+    row[0] = r.kind * 65536 + *first, row[1] = r.lo | r.hi << 16, row[2] = r.word, row[3] = r.stamp;
     *first = slot, in[2] += 1;
-    if (kind == RANGE_KIND) in[3] = 1;
+    if (r.kind == RANGE_KIND) in[3] = 1;
+}
+
+static void lay_put(struct store *s, uint32_t slot, uint32_t level, uint32_t docket) {
+    lay_record(s, slot, level, (struct record){PUT_KIND, docket, docket, slot, s->entries[1]});
 }
 
 /* Every slot a put of its own docket, in one of the deepest levels by turns or at random: sound tables, laid out word by word. */
@@ -43,17 +55,19 @@ static void lay_levels(struct store *s, uint32_t deepest, uint32_t slots, uint32
     s->entries[0] = 0, s->entries[1] = 1;
     for (uint32_t i = slots; i-- > 0;) {
         uint32_t up = at_random ? random_below(levels) : i % levels;
-        lay_record(s, i + 1, deepest - up, PUT_KIND, (uint32_t)((uint64_t)i * 65536 / slots));
+        lay_put(s, i + 1, deepest - up, (uint32_t)((uint64_t)i * 65536 / slots));
     }
 }
 
-/* Puts in the deepest level, and in the level above a range delete between each two, or a put of the same docket. */
-static void lay_pairs(struct store *s, uint32_t deepest, uint32_t slots, uint32_t kind) {
-    s->entries[0] = 0, s->entries[1] = 1;
+/* Puts in the deepest level, and in the level above a range delete between each two, the first over all and older than every put, or a put
+   of the same docket. */
+static void lay_pairs(struct store *s, uint32_t deepest, uint32_t slots, enum shape shape) {
+    s->entries[0] = 0, s->entries[1] = 2;
     for (uint32_t i = slots; i-- > 0;) {
-        uint32_t of = kind == PUT_KIND ? i - i % 2 : i, docket = (uint32_t)((uint64_t)of * 65535 / slots);
-        if (i % 2 == 0) lay_record(s, i + 1, deepest, PUT_KIND, docket);
-        else lay_record(s, i + 1, deepest - 1, kind, docket);
+        uint32_t of = shape == PUT_TWICE ? i - i % 2 : i, docket = (uint32_t)((uint64_t)of * 65535 / slots);
+        bool wide = i == 1 && shape == AND_ONE_WIDE;
+        if (i % 2 == 0 || shape == PUT_TWICE) lay_put(s, i + 1, deepest - i % 2, docket);
+        else lay_record(s, i + 1, deepest - 1, (struct record){RANGE_KIND, wide ? 0 : docket, wide ? GUONTREM_MAX_DOCKET : docket, wide ? 1 : 2, 2});
     }
 }
 
@@ -73,6 +87,7 @@ static uint32_t levels_of(enum shape shape) {
     case TWO_BY_TURNS:
     case TWO_AT_RANDOM:
     case RANGES_BETWEEN:
+    case AND_ONE_WIDE:
     case PUT_TWICE: return 2;
     case THREE_BY_TURNS: return 3;
     case SEVEN_BY_TURNS:
@@ -86,9 +101,9 @@ uint32_t fill(struct store *s, enum shape shape, uint32_t slots) {
     uint32_t deepest = levels == MOST_LEVELS ? MOST_LEVELS - 1 : DEEPEST;
     s->entry_words = GUONTREM_ENTRY_WORDS(slots), s->level_words = GUONTREM_LEVEL_WORDS(deepest);
     native_make(s->entries, s->entry_words, s->levels, s->level_words, deepest, RATIO, BUFFER, TERM);
-    if (shape == RANGES_BETWEEN || shape == PUT_TWICE) {
-        lay_pairs(s, deepest, slots, shape == PUT_TWICE ? PUT_KIND : RANGE_KIND);
-        return clock;
+    if (shape == RANGES_BETWEEN || shape == AND_ONE_WIDE || shape == PUT_TWICE) {
+        lay_pairs(s, deepest, slots, shape);
+        return s->entries[1];
     }
     if (levels != 0) {
         lay_levels(s, deepest, slots, levels, shape == TWO_AT_RANDOM || shape == SEVEN_AT_RANDOM);

@@ -15,8 +15,8 @@ enum {
 
 /* What tables hold: half the slots live and as many mixed calls as slots after that; every slot live, put at random or in ascending order;
    every slot live in some of the deepest levels, docket after docket by turns or at random, in the order of slots; live dockets in the
-   deepest level, and in the level above it a range delete between each two, or the same dockets once more. Seven levels need an L of 6, the
-   others have one of 3. */
+   deepest level, and in the level above it a range delete between each two, the same with a wide one of an earlier date over all, or the
+   same dockets once more. Seven levels need an L of 6, the others have one of 3. */
 enum shape {
     MIXED,
     PUT_AT_RANDOM,
@@ -27,6 +27,7 @@ enum shape {
     TWO_AT_RANDOM,
     SEVEN_AT_RANDOM,
     RANGES_BETWEEN,
+    AND_ONE_WIDE,
     PUT_TWICE,
     SHAPES
 };
@@ -34,8 +35,18 @@ enum shape {
 /* The calls of the mixed load, as letters of which one is drawn. */
 extern const char mixed_calls[];
 
-/* A call at random: one of the letters of the script program, S for a scan of all dockets with a row for each slot, C for the check. */
+/* A call at random: one of the letters of the script program, W for Y over all dockets, S for a scan of all dockets with a row for each
+   slot, C for the check. A date is any from 1 to the clock. */
 struct call draw(const char *letters, uint32_t clock, uint32_t dockets, uint32_t slots);
+
+/* A record: kind, dockets, a put's tally or a range delete's date, and stamp. */
+struct record {
+    uint32_t kind, lo, hi, word, stamp;
+};
+enum { PUT_KIND = 1, RANGE_KIND = 3 };
+
+/* Lays a record into a slot, before those of its chain; what is deleted is owed since clock 1. */
+void lay_record(struct store *s, uint32_t slot, uint32_t level, struct record r);
 
 /* Fills tables of so many slots; answers the last clock. Level tables have room for MOST_LEVEL_WORDS words where seven levels are laid, else for LEVEL_WORDS. */
 uint32_t fill(struct store *s, enum shape shape, uint32_t slots);

@@ -1,4 +1,5 @@
-/* A shift in a hall, as in shift.txt: pallets are put, counted again, deleted one by one and as a lot, and erased for good. */
+/* A shift in a hall, as in shift.txt: pallets are put, counted again, deleted one by one, as a lot and by the day they were graded, and
+   erased for good. */
 #include "guontrem.h"
 
 #include <stdio.h>
@@ -46,7 +47,10 @@ int main(void) {
     show("delete 3400 to 3499 at 41", guontrem_store_delete_range(&store, 41, 3400, 3499));
     show_docket(1200);
     show_docket(3401);
-    show("flush at 42", guontrem_store_flush(&store, 42));
+    show("delete graded to 22 at 44", guontrem_store_delete_range_dated(&store, 44, 1000, 5999, 22));
+    show_docket(5000);
+    show_docket(5001);
+    show("flush at 45", guontrem_store_flush(&store, 45));
     show("tick at 50", guontrem_store_tick(&store, 50));
     show("tick at 90", guontrem_store_tick(&store, 90));
     show("tick at 80, refused", guontrem_store_tick(&store, 80));

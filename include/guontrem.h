@@ -28,10 +28,10 @@
 extern "C" {
 #endif
 
-/* The version, for `#if 8 <= GUONTREM_VERSION`. MAJOR is 0 until the first release; MINOR grows by one with every change that a caller
+/* The version, for `#if 9 <= GUONTREM_VERSION`. MAJOR is 0 until the first release; MINOR grows by one with every change that a caller
    can see: a name, an answer, a refusal or a word of the tables. */
 #define GUONTREM_VERSION_MAJOR 0
-#define GUONTREM_VERSION_MINOR 8
+#define GUONTREM_VERSION_MINOR 9
 #define GUONTREM_VERSION (1000 * GUONTREM_VERSION_MAJOR + GUONTREM_VERSION_MINOR)
 
 /* N, the slots: one record each. */
@@ -70,7 +70,8 @@ enum guontrem_refusal {
     GUONTREM_DOCKET = 4,       /* a docket above GUONTREM_MAX_DOCKET, or lo above hi */
     GUONTREM_CLOCK = 5,        /* clock 0, or before the last accepted one */
     GUONTREM_SETTINGS = 6,     /* L, T, B or D out of range */
-    GUONTREM_FULL = 7          /* every slot holds a live docket, and the put's is none of them */
+    GUONTREM_FULL = 7,         /* every slot holds a live docket, and the put's is none of them */
+    GUONTREM_DATE = 10         /* date 0, or after the call's clock */
 };
 
 /* Makes a fresh store of the settings L, T, B and D; N follows from entry_words.
@@ -88,7 +89,8 @@ uint32_t guontrem_check(const uint32_t *entries, size_t entry_words, const uint3
    has B records, then each level from 1 to L-1 into the next if it is over its capacity or its limit of time. A record that a newer
    one displaces goes in a merge and its slot is wiped.
    Answers a number to be read by guontrem_timed_refusal, guontrem_timed_merges and guontrem_timed_purged.
-   Refusals: ENTRY_LENGTH, LEVEL_TABLE, UNSOUND, DOCKET (where dockets are given), CLOCK, in this order; for a put then FULL.
+   Refusals: ENTRY_LENGTH, LEVEL_TABLE, UNSOUND, DOCKET (where dockets are given), CLOCK, DATE (where one is given), in this order;
+   for a put then FULL.
    Tables: accepted, those of the store after the call, with its clock as the last. Refused: as they were; under FULL the levels
    are merged down, which no lookup and no scan can tell, and the last clock is as it was.
    Erasure, in a store that guontrem_make made and only these calls changed: once a delete was accepted and has left the buffer (in
@@ -106,6 +108,11 @@ uint64_t guontrem_delete(uint32_t *entries, size_t entry_words, uint32_t *levels
 /* Deletes the dockets from lo to hi, both included; never refused for lack of a slot. */
 uint64_t guontrem_delete_range(uint32_t *entries, size_t entry_words, uint32_t *levels, size_t level_words,
                                uint32_t clock, uint32_t lo, uint32_t hi);
+
+/* Deletes, of the dockets from lo to hi, those whose put was at the date or before it; the date is from 1 to the clock. It covers every
+   put there with such a clock, also one that a newer put already replaced. Never refused for lack of a slot. */
+uint64_t guontrem_delete_range_dated(uint32_t *entries, size_t entry_words, uint32_t *levels, size_t level_words,
+                                     uint32_t clock, uint32_t lo, uint32_t hi, uint32_t date);
 
 /* Merges the buffer first, full or not, so that the term of the deletes in it is kept. */
 uint64_t guontrem_flush(uint32_t *entries, size_t entry_words, uint32_t *levels, size_t level_words, uint32_t clock);
@@ -264,6 +271,12 @@ static inline struct guontrem_timed_answer guontrem_store_delete_range(struct gu
                                                                        uint32_t hi) {
     return guontrem_timed_parts(
         guontrem_delete_range(store->entries, store->entry_words, store->levels, store->level_words, clock, lo, hi));
+}
+
+static inline struct guontrem_timed_answer guontrem_store_delete_range_dated(struct guontrem_store *store, uint32_t clock, uint32_t lo,
+                                                                             uint32_t hi, uint32_t date) {
+    return guontrem_timed_parts(guontrem_delete_range_dated(store->entries, store->entry_words, store->levels, store->level_words,
+                                                            clock, lo, hi, date));
 }
 
 static inline struct guontrem_timed_answer guontrem_store_flush(struct guontrem_store *store, uint32_t clock) {

@@ -17,6 +17,7 @@ uint64_t proved_call(const struct store *s, const struct call *c, struct guontre
     case PUT: return guontrem_put(e, ne, l, nl, c->clock, c->lo, c->tally);
     case DELETE: return guontrem_delete(e, ne, l, nl, c->clock, c->lo);
     case DELETE_RANGE: return guontrem_delete_range(e, ne, l, nl, c->clock, c->lo, c->hi);
+    case DELETE_RANGE_DATED: return guontrem_delete_range_dated(e, ne, l, nl, c->clock, c->lo, c->hi, c->date);
     case FLUSH: return guontrem_flush(e, ne, l, nl, c->clock);
     case TICK: return guontrem_tick(e, ne, l, nl, c->clock);
     default: abort();
@@ -40,6 +41,7 @@ uint64_t native_call(const struct store *s, const struct call *c, struct guontre
     case PUT: return of_timed(native_put(e, ne, l, nl, c->clock, c->lo, c->tally));
     case DELETE: return of_timed(native_delete(e, ne, l, nl, c->clock, c->lo));
     case DELETE_RANGE: return of_timed(native_delete_range(e, ne, l, nl, c->clock, c->lo, c->hi));
+    case DELETE_RANGE_DATED: return of_timed(native_delete_range_dated(e, ne, l, nl, c->clock, c->lo, c->hi, c->date));
     case FLUSH: return of_timed(native_flush(e, ne, l, nl, c->clock));
     case TICK: return of_timed(native_tick(e, ne, l, nl, c->clock));
     default: abort();

@@ -3,7 +3,7 @@
 
 #include "guontrem.h"
 
-enum kind { MAKE, CHECK, LOOKUP, SCAN, PUT, DELETE, DELETE_RANGE, FLUSH, TICK, KINDS };
+enum kind { MAKE, CHECK, LOOKUP, SCAN, PUT, DELETE, DELETE_RANGE, DELETE_RANGE_DATED, FLUSH, TICK, KINDS };
 
 /* Two lent tables of any lengths and content. */
 struct store {
@@ -18,7 +18,7 @@ struct settings {
 /* What a kind has no use for is not looked at. */
 struct call {
     enum kind kind;
-    uint32_t clock, lo, hi, tally;
+    uint32_t clock, lo, hi, date, tally;
     size_t row_count;
     struct settings settings;
 };

@@ -15,12 +15,13 @@ static const struct walked REFUSED = {false, 0};
 
 /* Whether the row of a record may stand in a chain of points or ranges. */
 static bool record_fits(enum class class, const uint32_t *row, uint32_t clock, uint32_t owed) {
-    uint32_t kind = row[0] >> 16, lo = row[1] & 65535, hi = row[1] >> 16, tally = row[2], stamp = row[3];
+    uint32_t kind = row[0] >> 16, lo = row[1] & 65535, hi = row[1] >> 16, word = row[2], stamp = row[3];
     if (stamp == 0 || clock < stamp) return false;
     if (class == POINTS && (lo != hi || (kind != 1 && kind != 2))) return false;
-    if (class == RANGES && (hi < lo || kind != 3)) return false;
+    /* A range delete's word is its date. */
+    if (class == RANGES && (hi < lo || kind != 3 || word == 0 || stamp < word)) return false;
     if (kind == 1) return true;
-    return tally == 0 && owed != 0 && owed <= stamp;
+    return (kind == 3 || word == 0) && owed != 0 && owed <= stamp;
 }
 
 static struct walked walk(enum class class, const uint32_t *entries, size_t slots, uint32_t head, uint32_t owed, uint8_t *marks) {

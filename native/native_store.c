@@ -1,4 +1,4 @@
-/* The calls of document 01, written plainly in C: chains merged in place behind a tail pointer. */
+/* The calls, written plainly in C: chains merged in place behind a tail pointer. */
 #include "native_store.h"
 
 #include "native_check.h"
@@ -8,7 +8,7 @@
 
 enum { PUT = 1, DELETE = 2, RANGE = 3, LAST_DOCKET = 65535, MOST_LEVELS = 7 };
 
-enum native_coverage native_coverage = NATIVE_TRIMMED;
+enum native_coverage native_coverage = NATIVE_TWO_PLACES;
 int native_checks = 1;
 
 struct level {
@@ -19,6 +19,8 @@ static uint32_t next_of(const uint32_t *e, uint32_t s) { return e[4 * s] & 65535
 static uint32_t kind_of(const uint32_t *e, uint32_t s) { return e[4 * s] >> 16; }
 static uint32_t lo_of(const uint32_t *e, uint32_t s) { return e[4 * s + 1] & 65535; }
 static uint32_t hi_of(const uint32_t *e, uint32_t s) { return e[4 * s + 1] >> 16; }
+static uint32_t date_of(const uint32_t *e, uint32_t s) { return e[4 * s + 2]; }
+static uint32_t stamp_of(const uint32_t *e, uint32_t s) { return e[4 * s + 3]; }
 static uint32_t key_of(const uint32_t *e, uint32_t s) { return lo_of(e, s) << 16 | hi_of(e, s); }
 
 static void set_next(uint32_t *e, uint32_t s, uint32_t next) { e[4 * s] = (e[4 * s] & ~65535u) | next; }
@@ -30,32 +32,47 @@ static void release(uint32_t *e, uint32_t s) {
 
 static struct level *row(uint32_t *l, uint32_t i) { return (struct level *)(l + 4 * (i + 1)); }
 
-static bool walk_covers(const uint32_t *e, uint32_t r, uint32_t key) {
+static uint32_t later(uint32_t a, uint32_t b) { return a < b ? b : a; }
+
+static bool walk_covers(const uint32_t *e, uint32_t r, uint32_t key, uint32_t stamp) {
     for (; r != 0 && lo_of(e, r) <= key; r = next_of(e, r))
-        if (key <= hi_of(e, r)) return true;
+        if (key <= hi_of(e, r) && stamp <= date_of(e, r)) return true;
     return false;
+}
+
+/* Two places in a chain of ranges: the first that has not ended, and the first behind it that has not. So one wide old range over many
+   narrow ones does not keep those that have ended from being left behind. */
+struct front {
+    uint32_t first, behind;
+};
+
+static struct front front_at(const uint32_t *e, uint32_t r) { return (struct front){r, r == 0 ? 0 : next_of(e, r)}; }
+
+static uint32_t skip_ended(const uint32_t *e, uint32_t r, uint32_t key) {
+    while (r != 0 && hi_of(e, r) < key) r = next_of(e, r);
+    return r;
+}
+
+/* Whether a range covers a record of the docket and stamp; dockets are asked for in ascending order. */
+static bool front_covers(const uint32_t *e, struct front *f, uint32_t key, uint32_t stamp) {
+    if (f->first == 0 || key < lo_of(e, f->first)) return false;
+    if (hi_of(e, f->first) < key) *f = front_at(e, skip_ended(e, f->behind, key));
+    if (native_coverage == NATIVE_TWO_PLACES) f->behind = skip_ended(e, f->behind, key);
+    if (f->first == 0 || key < lo_of(e, f->first)) return false;
+    return stamp <= date_of(e, f->first) || walk_covers(e, f->behind, key, stamp);
 }
 
 /* Lower points that the upper level leaves, merged with its points. */
 static uint32_t merge_points(uint32_t *e, uint32_t x, uint32_t r, uint32_t y, uint32_t *gone) {
     uint32_t head = 0, tail = 0;
-    int64_t reach = -1;
+    struct front front = front_at(e, r);
     while (x != 0 || y != 0) {
         uint32_t at;
         if (y == 0 || (x != 0 && lo_of(e, x) < lo_of(e, y))) {
             at = x, x = next_of(e, x);
         } else {
             uint32_t key = lo_of(e, y);
-            bool goes = x != 0 && lo_of(e, x) == key;
-            if (!goes && native_coverage == NATIVE_RUNNING) {
-                for (; r != 0 && lo_of(e, r) <= key; r = next_of(e, r))
-                    if (reach < (int64_t)hi_of(e, r)) reach = hi_of(e, r);
-                goes = (int64_t)key <= reach;
-            } else if (!goes) {
-                if (native_coverage == NATIVE_TRIMMED)
-                    while (r != 0 && hi_of(e, r) < key) r = next_of(e, r);
-                goes = walk_covers(e, r, key);
-            }
+            bool goes = (x != 0 && lo_of(e, x) == key) || front_covers(e, &front, key, stamp_of(e, y));
             at = y, y = next_of(e, y);
             if (goes) {
                 release(e, at), ++*gone;
@@ -70,6 +87,7 @@ static uint32_t merge_points(uint32_t *e, uint32_t x, uint32_t r, uint32_t y, ui
     return head;
 }
 
+/* Of two alike the upper one stays, with the later date and the later stamp. */
 static uint32_t merge_ranges(uint32_t *e, uint32_t x, uint32_t y, uint32_t *gone) {
     uint32_t head = 0, tail = 0;
     while (x != 0 || y != 0) {
@@ -77,7 +95,7 @@ static uint32_t merge_ranges(uint32_t *e, uint32_t x, uint32_t y, uint32_t *gone
         if (y == 0 || (x != 0 && key_of(e, x) < key_of(e, y))) {
             at = x, x = next_of(e, x);
         } else if (x != 0 && key_of(e, x) == key_of(e, y)) {
-            if (e[4 * x + 3] < e[4 * y + 3]) e[4 * x + 3] = e[4 * y + 3];
+            e[4 * x + 2] = later(date_of(e, x), date_of(e, y)), e[4 * x + 3] = later(stamp_of(e, x), stamp_of(e, y));
             at = y, y = next_of(e, y);
             release(e, at), ++*gone;
             continue;
@@ -94,12 +112,12 @@ static uint32_t merge_ranges(uint32_t *e, uint32_t x, uint32_t y, uint32_t *gone
 
 static uint32_t earlier(uint32_t a, uint32_t b) { return a == 0 || (b != 0 && b < a) ? b : a; }
 
-/* Cells of a chain from lo to hi go; the deletes among them only, or all. */
-static uint32_t drop(uint32_t *e, uint32_t head, uint32_t lo, uint32_t hi, bool deletes, uint32_t *gone) {
+/* Cells of a chain from lo to hi with a stamp up to the date go; the deletes among them only, or all. */
+static uint32_t drop(uint32_t *e, uint32_t head, uint32_t lo, uint32_t hi, uint32_t date, bool deletes, uint32_t *gone) {
     uint32_t prior = 0;
     for (uint32_t at = head, next; at != 0; at = next) {
         next = next_of(e, at);
-        if (lo <= lo_of(e, at) && lo_of(e, at) <= hi && (!deletes || kind_of(e, at) == DELETE)) {
+        if (lo <= lo_of(e, at) && lo_of(e, at) <= hi && stamp_of(e, at) <= date && (!deletes || kind_of(e, at) == DELETE)) {
             if (prior != 0) set_next(e, prior, next);
             else head = next;
             release(e, at), ++*gone;
@@ -117,8 +135,8 @@ static uint32_t merge_level(uint32_t *e, uint32_t *l, uint32_t i) {
     v->ranges = merge_ranges(e, u.ranges, v->ranges, &gone);
     v->owed = earlier(u.owed, v->owed);
     if (i + 1 == l[0]) {
-        v->points = drop(e, v->points, 0, LAST_DOCKET, true, &gone);
-        v->ranges = drop(e, v->ranges, 0, LAST_DOCKET, false, &gone);
+        v->points = drop(e, v->points, 0, LAST_DOCKET, UINT32_MAX, true, &gone);
+        v->ranges = drop(e, v->ranges, 0, LAST_DOCKET, UINT32_MAX, false, &gone);
         v->owed = 0;
     }
     v->held += u.held - gone;
@@ -168,6 +186,12 @@ static uint32_t find_within(const uint32_t *e, uint32_t at, uint32_t lo, uint32_
     return at != 0 && lo_of(e, at) <= hi ? at : 0;
 }
 
+static bool frees_point(const uint32_t *e, uint32_t at, uint32_t lo, uint32_t hi, uint32_t date) {
+    for (at = find_within(e, at, lo, hi); at != 0 && lo_of(e, at) <= hi; at = next_of(e, at))
+        if (stamp_of(e, at) <= date) return true;
+    return false;
+}
+
 static uint32_t insert(uint32_t *e, uint32_t head, uint32_t slot) {
     uint32_t prior = 0, at = head;
     while (at != 0 && key_of(e, at) < key_of(e, slot)) prior = at, at = next_of(e, at);
@@ -177,34 +201,40 @@ static uint32_t insert(uint32_t *e, uint32_t head, uint32_t slot) {
     return head;
 }
 
-static void enter(uint32_t *e, uint32_t *l, uint32_t clock, uint32_t kind, uint32_t lo, uint32_t hi, uint32_t tally) {
+/* The date up to which a write makes points go: put and delete go by docket alone. */
+static uint32_t date_in(uint32_t kind, uint32_t word) { return kind == RANGE ? word : UINT32_MAX; }
+
+/* The word is a put's tally or a range delete's date. */
+static void enter(uint32_t *e, uint32_t *l, uint32_t clock, uint32_t kind, uint32_t lo, uint32_t hi, uint32_t word) {
     struct level *b = row(l, 0);
     uint32_t gone = 0;
-    b->points = drop(e, b->points, lo, hi, false, &gone);
+    b->points = drop(e, b->points, lo, hi, date_in(kind, word), false, &gone);
     if (kind == RANGE) {
         uint32_t same = find_span(e, b->ranges, lo, hi), prior = 0;
         if (same != 0) {
             for (uint32_t at = b->ranges; at != same; at = next_of(e, at)) prior = at;
             if (prior != 0) set_next(e, prior, next_of(e, same));
             else b->ranges = next_of(e, same);
+            word = later(word, date_of(e, same));
             release(e, same), gone++;
         }
     }
     uint32_t slot = e[0];
     e[0] = next_of(e, slot);
-    e[4 * slot] = kind << 16, e[4 * slot + 1] = lo | hi << 16, e[4 * slot + 2] = tally, e[4 * slot + 3] = clock;
+    e[4 * slot] = kind << 16, e[4 * slot + 1] = lo | hi << 16, e[4 * slot + 2] = word, e[4 * slot + 3] = clock;
     if (kind == RANGE) b->ranges = insert(e, b->ranges, slot);
     else b->points = insert(e, b->points, slot);
     b->held = b->held + 1 - gone;
     if (kind != PUT) b->owed = earlier(clock, b->owed);
 }
 
-static struct native_answer call_write(uint32_t *e, size_t ne, uint32_t *l, size_t nl, uint32_t clock, uint32_t kind, uint32_t lo, uint32_t hi, uint32_t tally) {
-    uint32_t refusal = refusal_of(e, ne, l, nl, clock, lo, hi);
+static struct native_answer call_write(uint32_t *e, size_t ne, uint32_t *l, size_t nl, uint32_t clock, uint32_t kind, uint32_t lo, uint32_t hi, uint32_t word) {
+    uint32_t refusal = refusal_of(e, ne, l, nl, clock, lo, hi), date = date_in(kind, word);
     if (refusal != 0) return refused(refusal);
+    if (kind == RANGE && (date == 0 || clock < date)) return refused(10);
     uint32_t before = held_all(l) + 1, merges = 0;
     struct level *b = row(l, 0);
-    if (e[0] == 0 && find_within(e, b->points, lo, hi) == 0 && !(kind == RANGE && find_span(e, b->ranges, lo, hi) != 0)) {
+    if (e[0] == 0 && !frees_point(e, b->points, lo, hi, date) && !(kind == RANGE && find_span(e, b->ranges, lo, hi) != 0)) {
         for (uint32_t i = 0; i < l[0]; i++) merges += merge_level(e, l, i);
         if (e[0] == 0) {
             struct level *deep = row(l, l[0]);
@@ -212,15 +242,15 @@ static struct native_answer call_write(uint32_t *e, size_t ne, uint32_t *l, size
             if (kind == PUT) {
                 uint32_t slot = find_span(e, deep->points, lo, lo);
                 if (slot == 0) return refused(7);
-                e[4 * slot + 2] = tally, e[4 * slot + 3] = clock;
+                e[4 * slot + 2] = word, e[4 * slot + 3] = clock;
             } else {
-                deep->points = drop(e, deep->points, lo, hi, false, &gone);
+                deep->points = drop(e, deep->points, lo, hi, date, false, &gone);
                 deep->held -= gone;
             }
             return finish(e, l, clock, before, merges);
         }
     }
-    enter(e, l, clock, kind, lo, hi, tally);
+    enter(e, l, clock, kind, lo, hi, word);
     return finish(e, l, clock, before, merges);
 }
 
@@ -233,7 +263,11 @@ struct native_answer native_delete(uint32_t *e, size_t ne, uint32_t *l, size_t n
 }
 
 struct native_answer native_delete_range(uint32_t *e, size_t ne, uint32_t *l, size_t nl, uint32_t clock, uint32_t lo, uint32_t hi) {
-    return call_write(e, ne, l, nl, clock, RANGE, lo, hi, 0);
+    return call_write(e, ne, l, nl, clock, RANGE, lo, hi, clock);
+}
+
+struct native_answer native_delete_range_dated(uint32_t *e, size_t ne, uint32_t *l, size_t nl, uint32_t clock, uint32_t lo, uint32_t hi, uint32_t date) {
+    return call_write(e, ne, l, nl, clock, RANGE, lo, hi, date);
 }
 
 struct native_answer native_flush(uint32_t *e, size_t ne, uint32_t *l, size_t nl, uint32_t clock) {
@@ -261,44 +295,53 @@ uint32_t native_make(uint32_t *e, size_t ne, uint32_t *l, size_t nl, uint32_t de
     return 0;
 }
 
+/* The latest date of a level's ranges over the docket, 0 where none is. */
+static uint32_t latest_date(const uint32_t *e, uint32_t r, uint32_t docket) {
+    uint32_t latest = 0;
+    for (; r != 0 && lo_of(e, r) <= docket; r = next_of(e, r))
+        if (docket <= hi_of(e, r)) latest = later(latest, date_of(e, r));
+    return latest;
+}
+
 struct native_found native_lookup(const uint32_t *e, size_t ne, const uint32_t *l, size_t nl, uint32_t docket) {
     struct native_found absent = {native_checks ? native_check(e, ne, l, nl) : 0, 0, 0, 0};
     if (absent.refusal == 0 && docket > LAST_DOCKET) absent.refusal = 4;
-    for (uint32_t i = 0; absent.refusal == 0 && i <= l[0]; i++) {
+    for (uint32_t i = 0, latest = 0; absent.refusal == 0 && i <= l[0]; i++) {
         uint32_t points = l[4 * (i + 1)], ranges = l[4 * (i + 1) + 1], at = find_within(e, points, docket, docket);
-        if (at != 0 && kind_of(e, at) == PUT) return (struct native_found){0, 1, e[4 * at + 2], e[4 * at + 3]};
-        if (at != 0 || walk_covers(e, ranges, docket)) break;
+        if (at != 0 && kind_of(e, at) == PUT && latest < stamp_of(e, at)) return (struct native_found){0, 1, e[4 * at + 2], e[4 * at + 3]};
+        if (at != 0) break;
+        latest = later(latest, latest_date(e, ranges, docket));
     }
     return absent;
 }
 
-/* Where a scan stands in one level: the next point and its docket, the next range, and the docket at which the ranges behind it end. */
+/* Where a scan stands in one level: the next point and its docket, and the ranges. */
 struct cursor {
-    uint32_t point, docket, range, reach;
+    uint32_t point, docket;
+    struct front ranges;
 };
 
 /* One past the last docket where the points end. */
 static void stand_on(const uint32_t *e, struct cursor *c, uint32_t point) { c->point = point, c->docket = point == 0 ? LAST_DOCKET + 1 : lo_of(e, point); }
 
-static uint32_t next_docket(const struct cursor *at, uint32_t deepest) {
-    uint32_t docket = at[0].docket;
-    for (uint32_t i = 1; i <= deepest; i++)
-        if (at[i].docket < docket) docket = at[i].docket;
-    return docket;
+/* The first of the levels that have the least docket. */
+static struct cursor *next_level(struct cursor *at, uint32_t deepest) {
+    struct cursor *first = at;
+    uint32_t docket = at->docket;
+    for (struct cursor *c = at + 1; c <= at + deepest; c++)
+        if (c->docket < docket) first = c, docket = c->docket;
+    return first;
 }
 
-/* Takes every cursor past the docket; its slot, or none where it is not live. */
-static uint32_t pass_docket(const uint32_t *e, struct cursor *at, uint32_t deepest, uint32_t docket) {
-    uint32_t slot = 0;
-    bool decided = false;
-    for (struct cursor *c = at; c <= at + deepest; c++) {
-        bool here = c->docket == docket;
-        for (; !decided && c->range != 0 && lo_of(e, c->range) <= docket; c->range = next_of(e, c->range))
-            if (c->reach <= hi_of(e, c->range)) c->reach = hi_of(e, c->range) + 1;
-        if (!decided && here && kind_of(e, c->point) == PUT) slot = c->point;
-        decided = decided || here || docket < c->reach;
-        if (here) stand_on(e, c, next_of(e, c->point));
-    }
+/* Takes every cursor past the docket; its slot, or none where it is not live: the first level with a point decides, and the ranges above it. */
+static uint32_t pass_docket(const uint32_t *e, struct cursor *at, uint32_t deepest, struct cursor *first) {
+    uint32_t slot = first->point, docket = first->docket;
+    stand_on(e, first, next_of(e, slot));
+    for (struct cursor *c = first + 1; c <= at + deepest; c++)
+        if (c->docket == docket) stand_on(e, c, next_of(e, c->point));
+    if (kind_of(e, slot) != PUT) return 0;
+    for (struct cursor *c = at; c < first; c++)
+        if (front_covers(e, &c->ranges, docket, stamp_of(e, slot))) return 0;
     return slot;
 }
 
@@ -308,11 +351,11 @@ struct native_scanned native_scan(const uint32_t *e, size_t ne, const uint32_t *
     if (answer.refusal != 0) return answer;
     struct cursor at[MOST_LEVELS];
     for (uint32_t i = 0; i <= l[0]; i++) {
-        at[i].range = l[4 * (i + 1) + 1], at[i].reach = 0;
+        at[i].ranges = front_at(e, l[4 * (i + 1) + 1]);
         stand_on(e, &at[i], find_within(e, l[4 * (i + 1)], lo, LAST_DOCKET));
     }
-    for (uint32_t docket; (docket = next_docket(at, l[0])) <= hi;) {
-        uint32_t slot = pass_docket(e, at, l[0], docket);
+    for (struct cursor *first; (first = next_level(at, l[0]))->docket <= hi;) {
+        uint32_t docket = first->docket, slot = pass_docket(e, at, l[0], first);
         if (slot == 0) continue;
         if (answer.count == row_count) {
             answer.more = 1, answer.next = docket;

@@ -3,7 +3,7 @@
 
 #include "guontrem.h"
 
-/* The calls of document 01 on the two tables, written plainly in C. */
+/* The calls on the two tables, written plainly in C. */
 struct native_answer {
     uint32_t refusal, merges, purged;
 };
@@ -22,11 +22,12 @@ struct native_scanned native_scan(const uint32_t *e, size_t ne, const uint32_t *
 struct native_answer native_put(uint32_t *e, size_t ne, uint32_t *l, size_t nl, uint32_t clock, uint32_t docket, uint32_t tally);
 struct native_answer native_delete(uint32_t *e, size_t ne, uint32_t *l, size_t nl, uint32_t clock, uint32_t docket);
 struct native_answer native_delete_range(uint32_t *e, size_t ne, uint32_t *l, size_t nl, uint32_t clock, uint32_t lo, uint32_t hi);
+struct native_answer native_delete_range_dated(uint32_t *e, size_t ne, uint32_t *l, size_t nl, uint32_t clock, uint32_t lo, uint32_t hi, uint32_t date);
 struct native_answer native_flush(uint32_t *e, size_t ne, uint32_t *l, size_t nl, uint32_t clock);
 struct native_answer native_tick(uint32_t *e, size_t ne, uint32_t *l, size_t nl, uint32_t clock);
 
-/* How a merge asks whether an upper range is over a lower point; for the measurement behind docs/DECISIONS.md. */
-enum native_coverage { NATIVE_WALK, NATIVE_TRIMMED, NATIVE_RUNNING };
+/* How a merge or a scan asks whether a range covers a point; for the measurement behind docs/DECISIONS.md. */
+enum native_coverage { NATIVE_WALK, NATIVE_TWO_PLACES };
 extern enum native_coverage native_coverage;
 /* Whether calls check the tables first, as document 01 asks. */
 extern int native_checks;

@@ -11,9 +11,9 @@ _words = ctypes.POINTER(ctypes.c_uint32)
 _tables = [_words, ctypes.c_size_t, _words, ctypes.c_size_t]
 _library = ctypes.CDLL(str(ROOT / "target" / "libguontrem.so"))
 _names = {"check": (0, ctypes.c_uint32), "make": (4, ctypes.c_uint32), "lookup": (1, ctypes.c_uint64)}
-# The timed calls by the letters of document 01's script: a clock, then the other numbers.
-TIMED = {"P": "put", "D": "delete", "R": "delete_range", "F": "flush", "T": "tick"}
-_names |= {name: (numbers, ctypes.c_uint64) for name, numbers in (("put", 3), ("delete", 2), ("delete_range", 3), ("flush", 1), ("tick", 1))}
+# The timed calls by the letters of the script: a clock, then the other numbers.
+TIMED = {"P": "put", "D": "delete", "R": "delete_range", "Y": "delete_range_dated", "F": "flush", "T": "tick"}
+_names |= {name: (numbers, ctypes.c_uint64) for name, numbers in (("put", 3), ("delete", 2), ("delete_range", 3), ("delete_range_dated", 4), ("flush", 1), ("tick", 1))}
 for _name, (_numbers, _answer) in _names.items():
     _call = getattr(_library, f"guontrem_{_name}")
     _call.argtypes = _tables + [ctypes.c_uint32] * _numbers

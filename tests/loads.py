@@ -5,7 +5,7 @@ import tables
 from tables import BASE, DELETE, PUT, RANGE
 
 LARGEST = 4294967295
-LETTERS = "PPPPDDRFTT"
+LETTERS = "PPPPPDDRYYFTT"
 
 
 def fresh_store(n, l, t, b, d):
@@ -20,7 +20,7 @@ def read_levels(entries, levels):
     for i in range(levels[0] + 1):
         points, ranges, _, owed = levels[4 * (i + 1):4 * (i + 2)]
         rows = [[tables.Row(entries, s) for s in tables.chain(entries, head)] for head in (points, ranges)]
-        yield {p.lo: (p.kind, p.tally, p.stamp) for p in rows[0]}, {(r.lo, r.hi): r.stamp for r in rows[1]}, owed
+        yield {p.lo: (p.kind, p.tally, p.stamp) for p in rows[0]}, {(r.lo, r.hi): (r.date, r.stamp) for r in rows[1]}, owed
 
 
 def reference_of(entries, levels):
@@ -37,21 +37,42 @@ def random_settings(rng, n):
     return n, l, rng.randint(2, 10), rng.choice((1, 2, 3, 8, 64)), rng.choice((1, 2, 9, 40, 1000))
 
 
-def random_call(rng, clock, dockets, term):
-    letter = rng.choice(LETTERS)
-    t = max(0, clock + rng.choice((0, 0, 0, 1, 1, 1, 2, term, -1, rng.randrange(2 * term + 2))))
-    a, b = sorted((rng.randrange(dockets), rng.randrange(dockets)))
-    odd = rng.random()
-    if odd < 0.01:
-        a, b = b + 1, a
-    elif odd < 0.02:
-        a, b = 65536, 65536 + rng.randrange(5)
-    return {"P": ("P", t, a, rng.getrandbits(32)), "D": ("D", t, a), "R": ("R", t, a, b), "F": ("F", t), "T": ("T", t)}[letter]
+class RandomCalls:
+    """Calls on one store. Spans and clocks come back, so that ranges are alike and dates fall on stamps."""
+
+    def __init__(self, rng, dockets, term):
+        self.rng, self.dockets = rng, dockets
+        self.steps = rng.choice(((0, 0, 0, 0, 1), (0, 0, 0, 1, 1, 1, 2, term, -1, rng.randrange(2 * term + 2))))
+        self.spans, self.clocks = [], [1]
+
+    def draw(self, clock):
+        t, (lo, hi) = max(0, clock + self.rng.choice(self.steps)), self.span()
+        self.spans.append((lo, hi))
+        self.clocks.append(t)
+        odd = self.rng.random()
+        # A date out of range is met beside other faults too, to see which is told.
+        date = self.rng.choice((0, t + 1)) if self.rng.random() < (0.5 if odd < 0.02 or t < clock else 0.03) else self.date(t)
+        if odd < 0.01:
+            lo, hi = hi + 1, lo
+        elif odd < 0.02:
+            lo, hi = 65536, 65536 + self.rng.randrange(5)
+        numbers = {"P": (lo, self.rng.getrandbits(32)), "D": (lo,), "R": (lo, hi), "Y": (lo, hi, date), "F": (), "T": ()}
+        letter = self.rng.choice(LETTERS)
+        return letter, t, *numbers[letter]
+
+    def span(self):
+        if self.spans and self.rng.random() < 0.3:
+            return self.rng.choice(self.spans[-20:])
+        return sorted((self.rng.randrange(self.dockets), self.rng.randrange(self.dockets)))
+
+    def date(self, t):
+        old = self.rng.choice(self.clocks[-20:])
+        return min(max(1, self.rng.choice((t, t, t - 1, t // 2, 1, old, old, old, old - 1, old + 1))), max(1, t))
 
 
 def random_tables(rng):
     """Sound tables, mostly not reachable by calls."""
-    deepest, slots = rng.randint(2, 6), rng.randint(1, 40)
+    deepest, slots, last = rng.randint(2, 6), rng.randint(1, 40), rng.choice((4, 30))
     order = rng.sample(range(1, slots + 1), slots)
     clock = rng.randint(1, 50)
     entries, levels = [0] * (4 * (slots + 1)), [deepest, rng.randint(2, 10), rng.randint(1, 64), rng.randint(1, LARGEST)] + [0] * (4 * (deepest + 1))
@@ -59,17 +80,20 @@ def random_tables(rng):
 
     def lay(records):
         taken = [order.pop() for _ in records]
-        for slot, after, (kind, span, tally, stamp) in zip(taken, taken[1:] + [0], records):
-            entries[4 * slot:4 * slot + 4] = [after + BASE * kind, span, tally, stamp]
+        for slot, after, (kind, span, word, stamp) in zip(taken, taken[1:] + [0], records):
+            entries[4 * slot:4 * slot + 4] = [after + BASE * kind, span, word, stamp]
         return taken[0] if taken else 0
+
+    def dated(span, stamp):
+        return RANGE, span, rng.choice((1, stamp, rng.randint(1, stamp))), stamp
 
     for i in range(deepest + 1):
         room = rng.randint(0, len(order))
-        dockets = sorted(rng.sample(range(30), min(30, rng.randint(0, room))))
+        dockets = sorted(rng.sample(range(last), min(last, rng.randint(0, room))))
         kinds = [PUT if i == deepest else rng.choice((PUT, DELETE)) for _ in dockets]
         points = [(kind, k + BASE * k, rng.getrandbits(32) if kind == PUT else 0, rng.randint(1, clock)) for kind, k in zip(kinds, dockets)]
-        spans = sorted({tuple(sorted((rng.randrange(30), rng.randrange(30)))) for _ in range(0 if i == deepest else min(4, room - len(points)))})
-        ranges = [(RANGE, lo + BASE * hi, 0, rng.randint(1, clock)) for lo, hi in spans]
+        spans = sorted({tuple(sorted((rng.randrange(last), rng.randrange(last)))) for _ in range(0 if i == deepest else min(4, room - len(points)))})
+        ranges = [dated(lo + BASE * hi, rng.randint(1, clock)) for lo, hi in spans]
         stamps = [r[3] for r in points + ranges if r[0] != PUT]
         owed = rng.randint(1, min(stamps)) if stamps else rng.choice((0, clock)) if points and i < deepest else 0
         levels[4 * (i + 1):4 * (i + 2)] = [lay(points), lay(ranges), len(points) + len(ranges), owed]
@@ -78,8 +102,13 @@ def random_tables(rng):
 
 
 def damage(rng, entries, levels):
-    """One or two words changed, two links exchanged, or words cut off."""
+    """A date out of range, or one or two words changed, two links exchanged, words cut off."""
     entries, levels = list(entries), list(levels)
+    ranges = [at for at in range(4, len(entries), 4) if entries[at] // BASE == RANGE]
+    if ranges and rng.random() < 0.2:
+        at = rng.choice(ranges)
+        entries[at + 2] = rng.choice((0, entries[at + 3] + 1, LARGEST))
+        return entries, levels
     for _ in range(rng.randint(1, 2)):
         words = rng.choice((entries, levels))
         at = rng.randrange(len(words))

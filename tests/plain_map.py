@@ -14,6 +14,9 @@ class PlainMap:
         elif letter == "R":
             lo, hi = numbers
             self.rows = {docket: row for docket, row in self.rows.items() if not lo <= docket <= hi}
+        elif letter == "Y":
+            lo, hi, date = numbers
+            self.rows = {docket: row for docket, row in self.rows.items() if not (lo <= docket <= hi and row[1] <= date)}
 
     def lookup(self, docket):
         """Found, tally and stamp."""

@@ -1,4 +1,4 @@
-"""Random scripts for the script program, and what it prints by document 01: refusals, merges and purged by the plain steps, lookups by a plain map.
+"""Random scripts for the script program, and what it prints by the papers: refusals, merges and purged by the plain steps, lookups by a plain map.
 
 `python3 tests/random_scripts.py LINES [SEED]` runs so many random lines."""
 import collections
@@ -16,8 +16,8 @@ ROOT = pathlib.Path(__file__).parent.parent
 PROGRAM = ROOT / "target" / "bin" / "run_script"
 FAILING = ROOT / "target" / "failing"
 LARGEST, LAST_DOCKET, MOST_SLOTS = 4294967295, 65535, 4000
-FIELDS = {"M": 5, "P": 3, "D": 2, "R": 3, "F": 1, "T": 1, "G": 1}
-FORM = re.compile(rb"[MPDRFTG]( [0-9]{1,10})+")
+FIELDS = {"M": 5, "P": 3, "D": 2, "R": 3, "Y": 4, "F": 1, "T": 1, "G": 1}
+FORM = re.compile(rb"[MPDRYFTG]( [0-9]{1,10})+")
 NO_FORM = (9, 0, 0)
 PATIENCE = 60   # seconds after which a program that should have answered or ended is stuck
 
@@ -89,7 +89,7 @@ class Model:
 # Most slots, most lines, and how often such a store is drawn: to the plain steps, full tables of many slots are dear.
 SIZES = ((2, 60), (8, 250), (30, 500), (300, 1500), (MOST_SLOTS, 6000))
 SIZE_WEIGHTS = (300, 400, 200, 40, 4)
-MIXES = ("PPPPPPGGGD", "PPPPDDRFTTGGGG", "PPDDDGGGT", "PPPPRRGGGT", "PGPGPGPF", "PPPPPPPPPPPPDRGGT")
+MIXES = ("PPPPPPGGGD", "PPPPDDRYFTTGGGG", "PPDDDGGGT", "PPPPRYGGGT", "PPPPYYGGGT", "PPPPYYYFGGG", "PGPGPGPF", "PPPPPPPPPPPPDRYGGT")
 OTHER_BYTES = bytes(byte for byte in range(256) if byte != ord("\n"))
 ODD_SHARE = 0.05
 
@@ -110,6 +110,8 @@ class Load:
         # A clock that stands still, goes on, goes in jumps, and jumps by the term.
         self.steps = rng.choice(((0,), (0, 0, 0, 1), (1,), (0, 1, 2, 5), (0, 0, 1, self.term), (0, self.term // 2, self.term + 1)))
         self.clock = rng.choice((1, 1, 1, rng.randint(1, LARGEST), LARGEST - 3))
+        # Spans and clocks come back, so that ranges are alike and dates fall on stamps.
+        self.spans, self.clocks = collections.deque([(0, 0)], 12), collections.deque([1], 12)
 
     def script(self):
         yield self.show("M", self.slots, *self.settings)
@@ -118,16 +120,29 @@ class Load:
 
     def line(self):
         self.clock = min(LARGEST, self.clock + self.rng.choice(self.steps))
-        lo = self.docket()
-        return self.call(self.rng.choice(self.letters), self.clock, lo, min(lo + self.rng.randint(0, self.width), LAST_DOCKET))
+        lo, hi = self.span()
+        self.spans.append((lo, hi))
+        self.clocks.append(self.clock)
+        return self.call(self.rng.choice(self.letters), self.clock, lo, hi, self.date())
 
     def docket(self):
         return self.first + self.rng.randrange(self.dockets)
 
-    def call(self, letter, clock, lo, hi):
-        """The last number is a put's tally or a range's end."""
+    def span(self):
+        if self.rng.random() < 0.2:
+            return self.rng.choice(self.spans)
+        lo = self.docket()
+        return lo, min(lo + self.rng.randint(0, self.width), LAST_DOCKET)
+
+    def date(self):
+        old = self.rng.choice(self.clocks)
+        return max(1, self.rng.choice((self.clock, self.clock - 1, self.clock // 2, 1, old, old, old, old - 1)))
+
+    def call(self, letter, clock, lo, hi, date=1):
+        """The last number is a put's tally, a range's end or its date."""
         tally = self.rng.choice((self.rng.getrandbits(32), self.rng.randrange(10), LARGEST))
-        return self.show(letter, *{"P": (clock, lo, tally), "D": (clock, lo), "R": (clock, lo, hi), "F": (clock,), "T": (clock,), "G": (lo,)}[letter])
+        numbers = {"P": (clock, lo, tally), "D": (clock, lo), "R": (clock, lo, hi), "Y": (clock, lo, hi, date), "F": (clock,), "T": (clock,), "G": (lo,)}
+        return self.show(letter, *numbers[letter])
 
     def show(self, letter, *numbers):
         """Now and then with leading zeros."""
@@ -135,17 +150,22 @@ class Load:
         return " ".join([letter] + [str(number).zfill(width) for number in numbers]).encode("ascii")
 
     def odd_line(self):
-        return self.rng.choice((self.early_line, self.far_line, self.refused_make, self.malformed_line))()
+        return self.rng.choice((self.early_line, self.far_line, self.misdated_line, self.refused_make, self.malformed_line))()
 
     def early_line(self):
+        """The date may be wrong too."""
         clock = self.rng.choice((0, self.clock - 1, self.rng.randrange(self.clock)))
-        return self.call(self.rng.choice("PDRFT"), clock, self.docket(), LAST_DOCKET)
+        return self.call(self.rng.choice("PDRYFT"), clock, self.docket(), LAST_DOCKET, self.rng.choice((0, 1, clock, self.clock)))
 
     def far_line(self):
-        """Dockets past the last and ranges with lo above hi; the clock may be wrong too."""
+        """Dockets past the last and ranges with lo above hi; the clock and the date may be wrong too."""
         lo, hi = self.rng.choice(((1, 0), (LAST_DOCKET, 0), (0, LAST_DOCKET + 1), (LAST_DOCKET + 1,) * 2, (LARGEST,) * 2, (LAST_DOCKET + 1, 5)))
-        letter = "R" if lo <= LAST_DOCKET else self.rng.choice("PDRG")
-        return self.call(letter, self.rng.choice((self.clock, self.clock, 0)), lo, hi)
+        letter = self.rng.choice("RY" if lo <= LAST_DOCKET else "PDRYG")
+        return self.call(letter, self.rng.choice((self.clock, self.clock, 0)), lo, hi, self.rng.choice((0, 1, self.clock)))
+
+    def misdated_line(self):
+        lo, hi = self.span()
+        return self.call("Y", self.clock, lo, hi, self.rng.choice((0, min(LARGEST, self.clock + 1), LARGEST)))
 
     def refused_make(self):
         slots = self.rng.choice((0, 1, self.slots, MOST_SLOTS, MOST_SLOTS + 1, LARGEST))
@@ -209,7 +229,7 @@ def run_random(seed, lines):
 
 
 def told(counts):
-    refusals = ", ".join(f"{counts[number]} answered {number}" for number in range(10) if counts[number])
+    refusals = ", ".join(f"{counts[number]} answered {number}" for number in range(11) if counts[number])
     return f"{counts['lines']} lines in {counts['scripts']} scripts; {refusals}; " + ", ".join(f"{name} {counts[name]}" for name in ("merges", "purged", "found", "absent"))
 
 

@@ -1,4 +1,4 @@
-"""Document 01's steps, written plainly: levels are lists of records, no tables and no chains."""
+"""Document 01's steps with request S-1, written plainly: levels are lists of records, no tables and no chains."""
 
 PUT, DELETE, RANGE = 1, 2, 3
 
@@ -6,7 +6,7 @@ PUT, DELETE, RANGE = 1, 2, 3
 class Level:
     def __init__(self):
         self.points = {}   # docket -> (kind, tally, stamp)
-        self.ranges = {}   # (lo, hi) -> stamp
+        self.ranges = {}   # (lo, hi) -> (date, stamp)
         self.owed = 0
 
     def held(self):
@@ -39,15 +39,17 @@ class Store:
         return self.n - self.held()
 
     @staticmethod
-    def goes(u, k):
-        return k in u.points or any(lo <= k <= hi for lo, hi in u.ranges)
+    def goes(u, k, stamp):
+        return k in u.points or any(lo <= k <= hi and stamp <= date for (lo, hi), (date, _) in u.ranges.items())
 
     def join(self, u, l, deepest):
-        for k in [k for k in l.points if self.goes(u, k)]:
+        # Judged by the ranges of u as they are, before they are united.
+        for k in [k for k, (_, _, stamp) in l.points.items() if self.goes(u, k, stamp)]:
             del l.points[k]
         l.points.update(u.points)
-        for r, stamp in u.ranges.items():
-            l.ranges[r] = max(stamp, l.ranges.get(r, 0))
+        for r, (date, stamp) in u.ranges.items():
+            other_date, other_stamp = l.ranges.get(r, (0, 0))
+            l.ranges[r] = (max(date, other_date), max(stamp, other_stamp))
         l.owed = earlier(u.owed, l.owed)
         if deepest:
             l.points = {k: p for k, p in l.points.items() if p[0] == PUT}
@@ -76,12 +78,14 @@ class Store:
     def call(self, op, t, *args):
         """The answer: refusal, merges, purged."""
         self.direct = self.merged_before = self.merged_in_pass = False
-        if op == 'P' and args[0] > 65535 or op == 'D' and args[0] > 65535 or op == 'R' and (args[1] > 65535 or args[0] > args[1]):
+        if op in 'PD' and args[0] > 65535 or op in 'RY' and (args[1] > 65535 or args[0] > args[1]):
             return (4, 0, 0)
         if t == 0 or t < self.clock:
             return (5, 0, 0)
+        if op == 'Y' and (args[2] == 0 or args[2] > t):
+            return (10, 0, 0)
         before, self.merges = self.held(), 0
-        written = op in 'PDR'
+        written = op in 'PDRY'
         if written:
             w = Level()
             if op == 'P':
@@ -90,10 +94,10 @@ class Store:
                 w.points[args[0]] = (DELETE, 0, t)
                 w.owed = t
             else:
-                w.ranges[(args[0], args[1])] = t
+                w.ranges[(args[0], args[1])] = (args[2] if op == 'Y' else t, t)
                 w.owed = t
             b = self.levels[0]
-            frees = any(self.goes(w, k) for k in b.points) or any(r in b.ranges for r in w.ranges)
+            frees = any(self.goes(w, k, stamp) for k, (_, _, stamp) in b.points.items()) or any(r in b.ranges for r in w.ranges)
             if self.free() == 0 and not frees:
                 for i in range(self.l):
                     self.merge(i)
@@ -105,7 +109,7 @@ class Store:
                         return (7, 0, 0)
                     deep.points[args[0]] = (PUT, args[1], t)
                 else:
-                    deep.points = {k: p for k, p in deep.points.items() if not self.goes(w, k)}
+                    deep.points = {k: p for k, p in deep.points.items() if not self.goes(w, k, p[2])}
             else:
                 self.join(w, self.levels[0], False)
         elif op == 'F':
@@ -116,10 +120,10 @@ class Store:
         return (0, self.merges, before + written - self.held())
 
     def lookup(self, k):
+        latest = 0   # date met so far
         for x in self.levels:
             if k in x.points:
                 kind, tally, stamp = x.points[k]
-                return (1, tally, stamp) if kind == PUT else (0, 0, 0)
-            if any(lo <= k <= hi for lo, hi in x.ranges):
-                return (0, 0, 0)
+                return (1, tally, stamp) if kind == PUT and stamp > latest else (0, 0, 0)
+            latest = max([latest] + [date for (lo, hi), (date, _) in x.ranges.items() if lo <= k <= hi])
         return (0, 0, 0)

@@ -1,4 +1,4 @@
-"""Document 01's "Sound tables", making and lookup on words, written plainly from the text: no marks, no early end."""
+"""Document 01's "Sound tables", making and lookup on words, with request S-1, written plainly from the text: no marks, no early end."""
 
 FREE, PUT, DELETE, RANGE = 0, 1, 2, 3
 BASE = 65536
@@ -27,10 +27,13 @@ def made(entries, levels, l, t, b, d):
 
 class Row:
     def __init__(self, entries, slot):
-        w0, w1, self.tally, self.stamp = entries[4 * slot:4 * slot + 4]
+        w0, w1, w2, self.stamp = entries[4 * slot:4 * slot + 4]
         self.kind, self.next = divmod(w0, BASE)
         self.hi, self.lo = divmod(w1, BASE)
-        self.span = w1
+        self.span, self.tally, self.date = w1, w2, w2   # word 2 is a range delete's date
+
+    def covers(self, point):
+        return self.lo <= point.lo <= self.hi and point.stamp <= self.date
 
 
 def chain(entries, head):
@@ -53,7 +56,8 @@ def level_sound(entries, row, points, ranges):
     dockets, spans = [p.lo for p in ps], [(r.lo, r.hi) for r in rs]
     return (all(p.kind in (PUT, DELETE) and p.lo == p.hi for p in ps)
             and all(r.kind == RANGE and r.lo <= r.hi for r in rs)
-            and all(r.tally == 0 for r in deletes)
+            and all(p.tally == 0 for p in ps if p.kind == DELETE)
+            and all(1 <= r.date <= r.stamp for r in rs)
             and dockets == sorted(set(dockets)) and spans == sorted(set(spans))
             and all(1 <= r.stamp <= clock for r in records)
             and number == len(records)
@@ -88,11 +92,11 @@ def lookup(entries, levels, docket):
     number = refusal(entries, levels) or (4 if docket > 65535 else 0)
     if number:
         return number, 0, 0, 0
+    above = []   # the ranges of the levels above
     for i in range(levels[0] + 1):
         row = levels[4 * (i + 1):4 * (i + 2)]
         for p in (Row(entries, s) for s in chain(entries, row[0])):
             if p.lo == docket:
-                return (0, 1, p.tally, p.stamp) if p.kind == PUT else (0, 0, 0, 0)
-        if any(r.lo <= docket <= r.hi for r in (Row(entries, s) for s in chain(entries, row[1]))):
-            return 0, 0, 0, 0
+                return (0, 1, p.tally, p.stamp) if p.kind == PUT and not any(r.covers(p) for r in above) else (0, 0, 0, 0)
+        above += [Row(entries, s) for s in chain(entries, row[1])]
     return 0, 0, 0, 0

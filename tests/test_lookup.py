@@ -1,4 +1,4 @@
-"""Lookups by the proved library on tables of every kind, against the plain text of document 01."""
+"""Lookups by the proved library on tables of every kind, against the plain text of the papers."""
 import random
 import unittest
 
@@ -26,6 +26,21 @@ class Lookup(unittest.TestCase):
             with self.subTest(name):
                 self.assertEqual(library.lookup(self.entries, self.levels, docket), found)
 
+    def test_a_date_is_asked_for_deeper(self):
+        """Level 1's range of 20 to 29 with each date, over a put of 25 on level 2 with each stamp; the buffer may have a range of its own."""
+        for date in (1, 2, 3):
+            for stamp in (1, 2, 3, 4):
+                for upper in (0, 1, 2, 3):
+                    entries = changed(changed(self.entries, 18, date), 27, stamp)
+                    levels = self.levels
+                    if upper:
+                        # In the slot of the deepest level's put, date and stamp of its own.
+                        entries[32:36] = [3 * tables.BASE, 25 + 25 * tables.BASE, upper, 4]
+                        levels = levels[:4] + [1, 8, 2, 3] + levels[8:16] + [0, 0, 0, 0]
+                    found = (0, 1, 71, stamp) if stamp > max(date, upper) else (0, 0, 0, 0)
+                    self.assertEqual(tables.lookup(entries, levels, 25), found, (date, stamp, upper))
+                    self.assertEqual(library.lookup(entries, levels, 25), found, (date, stamp, upper))
+
     def test_refusals_in_their_order(self):
         unsound = changed(ENTRIES, 3, 1)
         for e, l, docket, number in (
@@ -41,7 +56,7 @@ class Random(unittest.TestCase):
         for _ in range(4000):
             entries, levels = random_tables(rng)
             for e, l in [(entries, levels)] + [damage(rng, entries, levels) for _ in range(4)]:
-                docket = rng.choice([rng.randrange(30)] * 8 + [65535, 65536])
+                docket = rng.choice([rng.randrange(rng.choice((4, 30)))] * 8 + [65535, 65536])
                 expected = tables.lookup(e, l, docket)
                 met[expected[:2]] = met.get(expected[:2], 0) + 1
                 self.assertEqual(library.lookup(e, l, docket), expected, f"seed {seed}: {e} {l} {docket}")

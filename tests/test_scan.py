@@ -5,7 +5,7 @@ import unittest
 import library
 import reference
 import tables
-from loads import damage, fresh_store, random_call, random_settings, random_tables, reference_of
+from loads import RandomCalls, damage, fresh_store, random_settings, random_tables, reference_of
 from plain_map import PlainMap
 
 LAST_DOCKET = 65535
@@ -43,9 +43,9 @@ class Scans(unittest.TestCase):
     def run_list(self, rng, n, dockets, calls):
         """A store after random calls, the plain map after those that were accepted, and the plain steps."""
         settings = random_settings(rng, n)
-        store, plain, steps = fresh_store(*settings), PlainMap(), reference.Store(*settings)
+        store, plain, steps, drawn = fresh_store(*settings), PlainMap(), reference.Store(*settings), RandomCalls(rng, dockets, settings[4])
         for _ in range(calls):
-            call = random_call(rng, steps.clock, dockets, settings[4])
+            call = drawn.draw(steps.clock)
             answer = store.call(*call)
             self.assertEqual(answer, steps.call(*call))
             if answer[0] == 0:

@@ -1,4 +1,4 @@
-"""The script program: document 01's script, cases and edges, lines of every kind, how its input is cut, calls that fail for a while, how its output ends, and
+"""The script program: the papers' script, cases and edges, lines of every kind, how its input is cut, calls that fail for a while, how its output ends, and
 random scripts."""
 import contextlib
 import os
@@ -36,10 +36,15 @@ EDGES = [
      "0 0 0/0 1 0/0 1 1/7 0 0/0 1 51/0 0 0/0 0 2/0 1 0/0 0 0/0 1 60"),
     ("the widest range", "M 6 3 2 2 9/R 1 0 65535", "0 0 0/0 0 0"),
     ("lo above hi", "M 6 3 2 2 9/R 1 1 0/R 0 1 0/R 1 65536 65536/R 1 0 65536", "0 0 0/4 0 0/4 0 0/4 0 0/4 0 0"),
+    ("dates", "M 6 3 2 2 9/Y 5 0 9 0/Y 5 0 9 6/Y 5 0 9 4294967295/Y 5 0 9 5/Y 5 0 65535 1", "0 0 0/10 0 0/10 0 0/10 0 0/0 0 0/0 1 0"),
+    ("a date is asked for after dockets and the clock", "M 6 3 2 2 9/P 3 5 50/Y 3 1 0 0/Y 2 1 0 0/Y 2 0 1 0/Y 0 0 1 0/Y 3 0 65536 4/Y 3 0 1 0",
+     "0 0 0/0 0 0/4 0 0/4 0 0/5 0 0/5 0 0/4 0 0/10 0 0"),
+    ("everything up to a day", "M 8 3 2 2 9/P 1 7 70/P 2 8 80/P 3 9 90/Y 9 0 65535 2/G 7/G 8/G 9/F 9/G 8/G 9",
+     "0 0 0/0 0 0/0 1 0/0 0 0/0 1 2/0 0 0/0 0 0/0 1 90/0 0 0/0 0 0/0 1 90"),
     ("clocks", "M 6 3 2 2 9/T 0/P 3 5 50/P 3 6 60/T 3/T 2/P 0 65536 1", "0 0 0/5 0 0/0 0 0/0 1 0/0 0 0/5 0 0/4 0 0"),
     ("a lookup past the last docket", "M 6 3 2 2 9/P 1 65535 7/G 65535/G 65536/G 131071/G 4294967295", "0 0 0/0 0 0/0 1 7/4 0 0/4 0 0/4 0 0"),
     ("tallies of 32 bits", "M 6 3 2 2 9/P 1 0 4294967295/G 0/P 1 0 0/G 0", "0 0 0/0 0 0/0 1 4294967295/0 0 1/0 1 0"),
-    ("before a store", "P 1 7 70/D 1 7/R 1 7 8/F 1/T 1/G 7/G 65536/M 6 3 2 2 9/G 7", "9 0 0/9 0 0/9 0 0/9 0 0/9 0 0/9 0 0/9 0 0/0 0 0/0 0 0"),
+    ("before a store", "P 1 7 70/D 1 7/R 1 7 8/Y 1 7 8 1/F 1/T 1/G 7/G 65536/M 6 3 2 2 9/G 7", "9 0 0/9 0 0/9 0 0/9 0 0/9 0 0/9 0 0/9 0 0/9 0 0/0 0 0/0 0 0"),
     ("a refused M makes no store", "M 6 1 2 2 9/G 7/M 0 3 2 2 9/G 7/M 4001 3 2 2 9/G 7/M 6 3 2 2 9/G 7", "6 0 0/9 0 0/1 0 0/9 0 0/9 0 0/9 0 0/0 0 0/0 0 0"),
     ("settings at both ends", "M 1 2 2 1 1/M 4000 6 10 64 4294967295", "0 0 0/0 0 0"),
     ("L and T past the ends", "M 6 1 2 2 9/M 6 7 2 2 9/M 6 4294967295 2 2 9/M 6 3 1 2 9/M 6 3 11 2 9", "6 0 0/6 0 0/6 0 0/6 0 0/6 0 0"),
@@ -64,11 +69,11 @@ MALFORMED = {
     "other notations": [b"G 0x7", b"G 7h", b"G 7a", b"G 0b1", b"G 7.", b"G 7.0", b"G 1e1", b"G 7_0", b"G 7,000", b"G '7'"],
     "too large": [b"G 4294967296", b"G 4294967303", b"G 9999999999", b"T 4294967297", b"P 1 7 4294967296", b"M 6 3 2 2 4294967296", b"M 4294967302 3 2 2 9"],
     "too many digits": [b"G 42949672950", b"G 00000000007", b"G 18446744073709551623", b"G " + b"0" * 20 + b"7", b"P 1 7 00000000070"],
-    "lower case": [b"g 7", b"m 6 3 2 2 9", b"p 1 7 70", b"d 2 7", b"r 1 0 9", b"f 5", b"t 5"],
-    "other letters": [b"S 7", b"A 7", b"N 7", b"Q 1 7 70", b"U 5", b"GG 7", b"7", b"7 G", b"# G 7", b"\xc7 7"],
-    "a letter alone": [b"M", b"P", b"D", b"R", b"F", b"T", b"G"],
-    "too few": [b"M 6 3 2 2", b"M 6", b"P 1 7", b"P 1", b"D 2", b"R 3 5", b"R 3"],
-    "too many": [b"M 6 3 2 2 9 1", b"P 1 7 70 1", b"D 2 7 1", b"R 3 5 6 7", b"F 10 1", b"T 11 1", b"G 7 1"],
+    "lower case": [b"g 7", b"m 6 3 2 2 9", b"p 1 7 70", b"d 2 7", b"r 1 0 9", b"y 1 0 9 1", b"f 5", b"t 5"],
+    "other letters": [b"S 7", b"A 7", b"N 7", b"Q 1 7 70", b"U 5", b"X 1 0 9 1", b"Z 1 0 9 1", b"GG 7", b"7", b"7 G", b"# G 7", b"\xc7 7"],
+    "a letter alone": [b"M", b"P", b"D", b"R", b"Y", b"F", b"T", b"G"],
+    "too few": [b"M 6 3 2 2", b"M 6", b"P 1 7", b"P 1", b"D 2", b"R 3 5", b"R 3", b"Y 3 5 6", b"Y 3"],
+    "too many": [b"M 6 3 2 2 9 1", b"P 1 7 70 1", b"D 2 7 1", b"R 3 5 6 7", b"Y 3 5 6 3 8", b"F 10 1", b"T 11 1", b"G 7 1"],
 }
 
 # Of 56 bytes: no line of a form is longer.
@@ -77,7 +82,8 @@ LENGTHS = (55, 56, 57, 58, 63, 64, 65, 66, 67, 127, 128, 129, 8191, 8192, 8193, 
 
 READABLE = {
     b"G 0000000007": b"0 1 70\n", b"G 07": b"0 1 70\n", b"G 4294967295": b"4 0 0\n", b"T 0000000000": b"5 0 0\n",
-    b"P 0000000001 0000000009 4294967295": b"0 1 0\n", LONGEST: b"0 0 0\n", LONGEST[:-1]: b"6 0 0\n", LONGEST[:-10] + b"4294967295": b"0 0 0\n",
+    b"P 0000000001 0000000009 4294967295": b"0 1 0\n",
+    b"Y 4294967295 0000000000 0000065535 0000000001": b"0 0 1\n", LONGEST: b"0 0 0\n", LONGEST[:-1]: b"6 0 0\n", LONGEST[:-10] + b"4294967295": b"0 0 0\n",
 }
 
 
@@ -318,7 +324,7 @@ class Random(unittest.TestCase):
         print(f"seed {seed}", flush=True)
         counts = random_scripts.run_random(seed, LINES)
         self.assertGreaterEqual(counts["lines"], 500000)
-        self.assertEqual({number for number in range(10) if counts[number]}, {0, 1, 4, 5, 6, 7, 9}, f"seed {seed}: the refusals that were met")
+        self.assertEqual({number for number in range(11) if counts[number]}, {0, 1, 4, 5, 6, 7, 9, 10}, f"seed {seed}: the refusals that were met")
         for name in ("merges", "purged", "found", "absent"):
             self.assertGreater(counts[name], 0, f"seed {seed}: {name}")
         print(random_scripts.told(counts))

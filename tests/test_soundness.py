@@ -1,4 +1,4 @@
-"""The check of the proved library on tables of every kind, against the plain text of document 01."""
+"""The check of the proved library on tables of every kind, against the plain text of the papers."""
 import random
 import unittest
 
@@ -38,7 +38,11 @@ ENTRY_WORDS = [
     ("a range with hi below lo", 17, 29 + BASE * 20, 3),
     ("a range of one docket", 17, 20 + BASE * 20, 0),
     ("a delete with a tally", 14, 1, 3),
-    ("a range delete with a tally", 18, 1, 3),
+    ("a range delete of date 0", 18, 0, 3),
+    ("a range delete of date 1", 18, 1, 0),
+    ("a date after the range delete's stamp", 18, 4, 3),
+    ("a range delete's stamp before its date", 19, 2, 3),
+    ("a range delete's stamp after its date", 19, 4, 0),
     ("a point of kind 0", 4, 0, 3),
     ("a point of kind 3", 4, RANGE * BASE, 3),
     ("a point of kind 65,535", 4, 65535 * BASE, 3),

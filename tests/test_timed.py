@@ -7,7 +7,7 @@ import library
 import reference
 import tables
 from cases import CASES
-from loads import damage, fresh_store, random_call, random_settings, random_tables, read_levels, reference_of
+from loads import RandomCalls, damage, fresh_store, random_settings, random_tables, read_levels, reference_of
 
 
 class Document01(unittest.TestCase):
@@ -41,14 +41,15 @@ class Random(unittest.TestCase):
                 settings = random_settings(rng, n)
                 store, expected = fresh_store(*settings), reference.Store(*settings)
                 dockets = rng.choice((n + 1, 2 * n + 2, 65536))
+                drawn = RandomCalls(rng, dockets, settings[4])
                 for i in range(calls):
-                    call = random_call(rng, expected.clock, dockets, settings[4])
+                    call = drawn.draw(expected.clock)
                     note = f"seed {seed}: {settings}, call {i}: {call}"
                     answer = self.same(store, expected, call, note)
                     met[answer[0]] = met.get(answer[0], 0) + 1
                     docket = rng.randrange(dockets)
                     self.assertEqual(store.lookup(docket)[1:], expected.lookup(docket), note)
-        self.assertEqual(set(met), {0, 4, 5, 7}, f"seed {seed}: an outcome was not met")
+        self.assertEqual(set(met), {0, 4, 5, 7, 10}, f"seed {seed}: an outcome was not met")
         print(f"seed {seed}: {sum(met.values())} calls; " + ", ".join(f"{met[k]} answered {k}" for k in sorted(met)))
 
     def test_any_tables(self):
@@ -59,7 +60,7 @@ class Random(unittest.TestCase):
             entries, levels = random_tables(rng)
             for e, l in [(entries, levels)] + [damage(rng, entries, levels) for _ in range(2)]:
                 refusal, store = tables.refusal(e, l), library.Store(e, l)
-                call = random_call(rng, e[1] if len(e) > 1 else 1, 30, 9)
+                call = RandomCalls(rng, rng.choice((4, 30)), 9).draw(e[1] if len(e) > 1 else 1)
                 note = f"seed {seed}: {e} {l} {call}"
                 if refusal:
                     self.assertEqual((store.call(*call), store.tables()), ((refusal, 0, 0), (e, l)), note)
@@ -71,22 +72,26 @@ class Random(unittest.TestCase):
         print(f"seed {seed}: " + ", ".join(f"{met[k]} tables answered {k}" for k in sorted(met)))
 
 
-def covers(call, docket):
-    return call[0] == "D" and call[2] == docket or call[0] == "R" and call[2] <= docket <= call[3]
+def covers(call, docket, clock):
+    """A delete covers a put of a docket; one with a date asks for the put's clock too."""
+    letter, _, *numbers = call
+    if letter == "D":
+        return numbers[0] == docket
+    return letter in "RY" and numbers[0] <= docket <= numbers[1] and (letter == "R" or clock <= numbers[2])
 
 
 class Twins(unittest.TestCase):
     """Demand 3 on the built code: two runs that differ in the tally of one put have the same words once the put is erased."""
 
     def run_twins(self, rng, settings, calls, note):
-        """Whether the words ever differed, and whether the put was erased by the end of the list."""
+        """Whether the words ever differed, whether the put was erased by the end of the list, and whether by a delete with an earlier date."""
         puts = [i for i, c in enumerate(calls) if c[0] == "P"]
         chosen = rng.choice(puts)
-        docket = calls[chosen][2]
+        _, clock, docket, _ = calls[chosen]
         other = list(calls)
         other[chosen] = calls[chosen][:3] + (calls[chosen][3] ^ (1 << rng.randrange(32)),)
         one, two, steps = fresh_store(*settings), fresh_store(*settings), reference.Store(*settings)
-        waiting, gone, differed, erased = [], [], False, False
+        waiting, gone, differed, erased, dated = [], [], False, False, False
         for i, (a, b) in enumerate(zip(calls, other)):
             answer = one.call(*a)
             self.assertEqual(answer, two.call(*b), note)
@@ -94,28 +99,31 @@ class Twins(unittest.TestCase):
             # Merging before a delete's own entry does not count; a put refused 7 has merged the buffer too.
             if steps.merged_before or steps.merged_in_pass:
                 gone, waiting = gone + waiting, []
-            if answer[0] == 0 and i > chosen and covers(a, docket):
-                (gone if steps.direct or steps.merged_in_pass else waiting).append(a[1])
-            erased = erased or (answer[0] == 0 and any(a[1] - d >= settings[4] for d in gone))
+            if answer[0] == 0 and i > chosen and covers(a, docket, clock):
+                (gone if steps.direct or steps.merged_in_pass else waiting).append(a)
+            due = [d for d in gone if answer[0] == 0 and a[1] - d[1] >= settings[4]]
+            dated = dated or not erased and bool(due) and all(d[0] == "Y" and d[4] < d[1] for d in due)
+            erased = erased or bool(due)
             same = one.words() == two.words()
             differed = differed or not same
             self.assertTrue(same or not erased, f"{note}, call {i}: words differ")
-        return differed, erased
+        return differed, erased, dated
 
     def test_erased_tallies_leave_nothing(self):
         seed = random.randrange(1 << 32)
-        rng, differed, erased, both = random.Random(seed), 0, 0, 0
+        rng, differed, erased, both, dated = random.Random(seed), 0, 0, 0, 0
         for n, lists, length in ((1, 100, 40), (2, 200, 60), (5, 300, 120), (30, 100, 300), (300, 10, 1500)):
             for k in range(lists):
                 settings = random_settings(rng, n)
-                dockets, clock, calls = rng.choice((n, n + 1, 3 * n)), 0, [("P", 1, 0, 7)]
+                drawn, clock, calls = RandomCalls(rng, rng.choice((n, n + 1, 3 * n)), settings[4]), 0, [("P", 1, 0, 7)]
                 for _ in range(length):
-                    calls.append(random_call(rng, clock, dockets, settings[4]))
+                    calls.append(drawn.draw(clock))
                     clock = max(clock, calls[-1][1])
-                d, e = self.run_twins(rng, settings, calls, f"seed {seed}: list {k} of {settings}")
-                differed, erased, both = differed + d, erased + e, both + (d and e)
+                d, e, y = self.run_twins(rng, settings, calls, f"seed {seed}: list {k} of {settings}")
+                differed, erased, both, dated = differed + d, erased + e, both + (d and e), dated + (d and y)
         self.assertGreater(both, 50, f"seed {seed}: the twins hardly ever differed and then agreed")
-        print(f"seed {seed}: {differed} lists in which words differed, {erased} in which the put was erased, {both} in which both held")
+        self.assertGreater(dated, 5, f"seed {seed}: the put was hardly ever erased by an earlier date")
+        print(f"seed {seed}: {differed} lists in which words differed, {erased} in which the put was erased, {both} in which both held, {dated} of these by an earlier date")
 
 
 if __name__ == "__main__":

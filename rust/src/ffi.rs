@@ -39,6 +39,16 @@ extern "C" {
         lo: u32,
         hi: u32,
     ) -> u64;
+    pub fn guontrem_delete_range_dated(
+        entries: *mut u32,
+        entry_words: usize,
+        levels: *mut u32,
+        level_words: usize,
+        clock: u32,
+        lo: u32,
+        hi: u32,
+        date: u32,
+    ) -> u64;
     pub fn guontrem_flush(
         entries: *mut u32,
         entry_words: usize,

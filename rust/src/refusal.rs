@@ -22,6 +22,8 @@ pub enum Refusal {
     Settings = 6,
     /// Every slot holds a live docket, and the put's is none of them.
     Full = 7,
+    /// Date 0, or after the call's clock.
+    Date = 10,
 }
 
 impl Refusal {
@@ -41,6 +43,7 @@ impl Refusal {
             5 => Err(Refusal::Clock),
             6 => Err(Refusal::Settings),
             7 => Err(Refusal::Full),
+            10 => Err(Refusal::Date),
             _ => unreachable!("the archive answers no other number"),
         }
     }
@@ -56,6 +59,7 @@ impl fmt::Display for Refusal {
             Refusal::Clock => "the clock is 0 or before the last accepted one",
             Refusal::Settings => "a setting is out of range",
             Refusal::Full => "every slot holds another live docket",
+            Refusal::Date => "the date is 0 or after the call's clock",
         })
     }
 }

@@ -5,9 +5,10 @@ use crate::{check, Found, Passed, Refusal, Row, Scanned, Settings, View};
 
 /// Two lent tables that hold a store.
 ///
-/// A timed call ([`put`](Store::put), [`delete`](Store::delete), [`delete_range`](Store::delete_range), [`flush`](Store::flush),
-/// [`tick`](Store::tick)) ends with the pass, which merges each level that is over its capacity or its limit of time. A refused call
-/// leaves every word as it was; only [`Refusal::Full`] leaves the levels merged down, which no lookup and no scan can tell.
+/// A timed call ([`put`](Store::put), [`delete`](Store::delete), [`delete_range`](Store::delete_range),
+/// [`delete_range_dated`](Store::delete_range_dated), [`flush`](Store::flush), [`tick`](Store::tick)) ends with the pass, which merges
+/// each level that is over its capacity or its limit of time. A refused call leaves every word as it was; only [`Refusal::Full`]
+/// leaves the levels merged down, which no lookup and no scan can tell.
 ///
 /// Erasure, in a store that [`make`](Store::make) made and only these calls changed: once a delete was accepted and has left the buffer
 /// (in its own call or a later one), and a call at least the term after it was accepted, both tables are word for word what they would
@@ -84,6 +85,30 @@ impl<'a> Store<'a> {
         let (e, ne, l, nl) = self.lend();
         // SAFETY: as `lend` says.
         answers::passed(unsafe { ffi::guontrem_delete_range(e, ne, l, nl, clock, lo, hi) })
+    }
+
+    /// Deletes, of the dockets from lo to hi, those whose put was at the date or before it; the date is from 1 to the clock. It covers
+    /// every put there with such a clock, also one that a newer put already replaced. Never refused for lack of a slot.
+    ///
+    /// Refusals, in this order: those of [`check`], [`Docket`](Refusal::Docket), [`Clock`](Refusal::Clock), [`Date`](Refusal::Date).
+    ///
+    /// ```
+    /// use guontrem::{entry_words, level_words, Settings, Store, MAX_DOCKET};
+    ///
+    /// let mut entries = [0; entry_words(6)];
+    /// let mut levels = [0; level_words(2)];
+    /// let mut store = Store::make(&mut entries, &mut levels, Settings { deepest: 2, ratio: 2, buffer: 2, term: 9 })?;
+    /// store.put(1, 7, 70)?;
+    /// store.put(2, 8, 80)?;
+    /// store.delete_range_dated(5, 0, MAX_DOCKET, 1)?;
+    /// assert_eq!(store.lookup(7)?, None);
+    /// assert_eq!(store.lookup(8)?.unwrap().tally, 80);
+    /// # Ok::<(), guontrem::Refusal>(())
+    /// ```
+    pub fn delete_range_dated(&mut self, clock: u32, lo: u32, hi: u32, date: u32) -> Result<Passed, Refusal> {
+        let (e, ne, l, nl) = self.lend();
+        // SAFETY: as `lend` says.
+        answers::passed(unsafe { ffi::guontrem_delete_range_dated(e, ne, l, nl, clock, lo, hi, date) })
     }
 
     /// Merges the buffer first, full or not, so that the term of the deletes in it is kept.

@@ -43,6 +43,30 @@ fn a_range_and_a_flush() -> Result<(), Refusal> {
 }
 
 #[test]
+fn up_to_a_date() -> Result<(), Refusal> {
+    let (mut entries, mut levels) = ([0; entry_words(6)], [0; level_words(3)]);
+    let mut store = Store::make(&mut entries, &mut levels, SETTINGS)?;
+    store.put(3, 5, 50)?;
+    store.put(4, 6, 60)?;
+    assert_eq!(numbers(store.delete_range_dated(9, 0, MAX_DOCKET, 3)), Ok((0, 0)));
+    assert_eq!(store.lookup(5)?, None);
+    assert_eq!(tally_and_stamp(store.lookup(6)), Ok(Some((60, 4))));
+    assert_eq!(numbers(store.flush(9)), Ok((1, 1)));
+    assert_eq!(tally_and_stamp(store.lookup(6)), Ok(Some((60, 4))));
+    for (lo, hi, clock, date, refusal) in [
+        (0, 9, 9, 0, Refusal::Date),
+        (0, 9, 9, 10, Refusal::Date),
+        (0, 9, 8, 9, Refusal::Clock),
+        (1, 0, 8, 0, Refusal::Docket),
+    ] {
+        assert_eq!(store.delete_range_dated(clock, lo, hi, date), Err(refusal));
+    }
+    assert_eq!(numbers(store.delete_range_dated(9, 6, 6, 9)), Ok((0, 0)));
+    assert_eq!(store.lookup(6)?, None);
+    Ok(())
+}
+
+#[test]
 fn every_refusal() {
     let (mut entries, mut levels) = (vec![0; entry_words(1)], vec![0; level_words(2)]);
     let settings = Settings { deepest: 2, ratio: 2, buffer: 1, term: 4 };
@@ -63,6 +87,7 @@ fn every_refusal() {
     assert_eq!(store.delete_range(1, 1, 0), Err(Refusal::Docket));
     assert_eq!(store.lookup(MAX_DOCKET + 1), Err(Refusal::Docket));
     assert_eq!(store.tick(0), Err(Refusal::Clock));
+    assert_eq!(store.delete_range_dated(1, 0, 9, 2), Err(Refusal::Date));
     assert_eq!(numbers(store.put(1, 5, 50)), Ok((1, 0)));
     assert_eq!(numbers(store.put(2, 5, 51)), Ok((1, 1)));
     assert_eq!(store.put(3, 6, 60), Err(Refusal::Full));
@@ -84,8 +109,9 @@ fn numbers_and_texts() {
         Refusal::Clock,
         Refusal::Settings,
         Refusal::Full,
+        Refusal::Date,
     ];
-    assert_eq!(all.map(Refusal::number), [1, 2, 3, 4, 5, 6, 7]);
+    assert_eq!(all.map(Refusal::number), [1, 2, 3, 4, 5, 6, 7, 10]);
     let texts: std::collections::BTreeSet<String> = all.iter().map(Refusal::to_string).collect();
     assert_eq!(texts.len(), all.len());
 }

@@ -4,15 +4,21 @@
 #include <inttypes.h>
 #include <stdio.h>
 #include <stdlib.h>
-#include <string.h>
 
-enum { REFUSALS = 8 };
 struct counts counts;
 
-/* Which refusals each kind can meet. */
-static const char *const can_meet[KINDS] = {
-    [MAKE] = "0126", [CHECK] = "0123", [LOOKUP] = "01234", [SCAN] = "01234",
-    [PUT] = "0123457", [DELETE] = "012345", [DELETE_RANGE] = "012345", [FLUSH] = "01235", [TICK] = "01235",
+/* Which refusals each kind can meet, one bit each. */
+enum {
+    REFUSALS = GUONTREM_DATE + 1,
+    LENGTHS = 1 << GUONTREM_ACCEPTED | 1 << GUONTREM_ENTRY_LENGTH | 1 << GUONTREM_LEVEL_TABLE,
+    CHECKED = LENGTHS | 1 << GUONTREM_UNSOUND,
+    READS = CHECKED | 1 << GUONTREM_DOCKET,
+    TIMED = CHECKED | 1 << GUONTREM_CLOCK,
+    WRITES = READS | TIMED
+};
+static const int can_meet[KINDS] = {
+    [MAKE] = LENGTHS | 1 << GUONTREM_SETTINGS, [CHECK] = CHECKED, [LOOKUP] = READS, [SCAN] = READS, [PUT] = WRITES | 1 << GUONTREM_FULL,
+    [DELETE] = WRITES, [DELETE_RANGE] = WRITES, [DELETE_RANGE_DATED] = WRITES | 1 << GUONTREM_DATE, [FLUSH] = TIMED, [TICK] = TIMED,
 };
 
 void require(bool holds, const char *what) {
@@ -21,24 +27,27 @@ void require(bool holds, const char *what) {
     exit(1);
 }
 
-void count_call(enum kind kind, struct answer a) {
+void count_call(const struct call *c, struct answer a) {
+    enum kind kind = c->kind;
     counts.calls++;
-    require(a.refusal < REFUSALS, "a refusal above 7");
+    require(a.refusal < REFUSALS, "a refusal above 10");
     counts.refusals[kind][a.refusal]++;
     if (a.refusal != 0) return;
     counts.found += kind == LOOKUP && a.parts[0] == 1;
     counts.absent += kind == LOOKUP && a.parts[0] == 0;
     counts.more += kind == SCAN && a.parts[1] == 1;
+    counts.dated_now += kind == DELETE_RANGE_DATED && c->date == c->clock;
+    counts.dated_before += kind == DELETE_RANGE_DATED && c->date < c->clock;
     if (PUT <= kind) counts.merges += a.parts[0], counts.purged += a.parts[1];
 }
 
 static void print_refusals(void) {
-    printf("%-12s", "refusal");
-    for (int n = 0; n < REFUSALS; n++) printf("%10d", n);
+    printf("%-18s", "refusal");
+    for (int n = 0; n < REFUSALS; n++) printf("%9d", n);
     printf("\n");
     for (int kind = 0; kind < KINDS; kind++) {
-        printf("%-12s", kind_names[kind]);
-        for (int n = 0; n < REFUSALS; n++) printf("%10" PRIu64, counts.refusals[kind][n]);
+        printf("%-18s", kind_names[kind]);
+        for (int n = 0; n < REFUSALS; n++) printf("%9" PRIu64, counts.refusals[kind][n]);
         printf("\n");
     }
 }
@@ -46,7 +55,7 @@ static void print_refusals(void) {
 static void require_refusals(void) {
     for (int kind = 0; kind < KINDS; kind++)
         for (int n = 0; n < REFUSALS; n++) {
-            bool met = counts.refusals[kind][n] != 0, can = strchr(can_meet[kind], '0' + n) != NULL;
+            bool met = counts.refusals[kind][n] != 0, can = can_meet[kind] >> n & 1;
             if (met != can) printf("%s %s refusal %d\n", kind_names[kind], met ? "met" : "did not meet", n);
             require(met == can, "the refusals that each kind met");
         }
@@ -66,6 +75,8 @@ void report_counts(void) {
     tell("lookups that found", counts.found);
     tell("lookups that did not", counts.absent);
     tell("scans that said more", counts.more);
+    tell("range deletes with the clock as their date", counts.dated_now);
+    tell("range deletes with an earlier date", counts.dated_before);
     tell("scans with no rows over live dockets", counts.no_rows);
     tell("scans with one row", counts.one_row);
     tell("scans with a row for each live docket", counts.exact_rows);

@@ -49,8 +49,21 @@ static void check_dockets(void) {
     require(guontrem_timed_refusal(guontrem_put(entries, ne, levels, nl, 1, GUONTREM_MAX_DOCKET + 1, 1)) == GUONTREM_DOCKET, "a docket past the last");
 }
 
+static void check_dates(void) {
+    uint32_t entries[GUONTREM_ENTRY_WORDS(6)], levels[GUONTREM_LEVEL_WORDS(3)];
+    struct guontrem_store store = GUONTREM_STORE(entries, levels);
+    require(guontrem_store_make(&store, (struct guontrem_settings){3, 4, 8, 1000}) == GUONTREM_ACCEPTED, "a making");
+    require(guontrem_store_delete_range_dated(&store, 5, 0, 9, 0).refusal == GUONTREM_DATE, "date 0");
+    require(guontrem_store_delete_range_dated(&store, 5, 0, 9, 6).refusal == GUONTREM_DATE, "a date after the clock");
+    require(guontrem_store_delete_range_dated(&store, 5, 0, 9, 1).refusal == GUONTREM_ACCEPTED, "the least date");
+    require(guontrem_store_delete_range_dated(&store, 5, 0, 9, 5).refusal == GUONTREM_ACCEPTED, "the clock as date");
+    require(guontrem_store_delete_range_dated(&store, 4, 0, 9, 6).refusal == GUONTREM_CLOCK, "an early clock before a date after it");
+    require(guontrem_store_delete_range_dated(&store, 4, 1, 0, 6).refusal == GUONTREM_DOCKET, "dockets before clock and date");
+}
+
 void check_limits(void) {
     check_settings();
     check_slots();
     check_dockets();
+    check_dates();
 }

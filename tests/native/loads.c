@@ -8,16 +8,17 @@
 enum { ODD_SHARE = 20, MAKE_SHARE = 200, MOST_DOCKETS = GUONTREM_MAX_DOCKET + 1 };
 
 /* Every kind but make, which empties the store and is drawn apart. */
-static const enum kind every[] = {PUT, PUT, PUT, PUT, PUT, DELETE, DELETE, DELETE_RANGE, FLUSH, TICK, TICK, LOOKUP, LOOKUP, SCAN, CHECK};
+static const enum kind every[] = {PUT, PUT, PUT, PUT, PUT, DELETE, DELETE, DELETE_RANGE, DELETE_RANGE_DATED, FLUSH, TICK, TICK, LOOKUP, LOOKUP, SCAN, CHECK};
 static const enum kind filling[] = {PUT, PUT, PUT, PUT, PUT, PUT, PUT, PUT, LOOKUP, SCAN, DELETE, TICK};
 static const enum kind deleting[] = {PUT, PUT, PUT, DELETE, DELETE, DELETE, LOOKUP, SCAN, TICK, FLUSH};
-static const enum kind ranging[] = {PUT, PUT, PUT, PUT, DELETE_RANGE, DELETE_RANGE, LOOKUP, SCAN, TICK};
+static const enum kind ranging[] = {PUT, PUT, PUT, PUT, DELETE_RANGE, DELETE_RANGE_DATED, LOOKUP, SCAN, TICK};
+static const enum kind dating[] = {PUT, PUT, PUT, PUT, DELETE_RANGE_DATED, DELETE_RANGE_DATED, DELETE_RANGE_DATED, DELETE, LOOKUP, SCAN, TICK, FLUSH};
 
 #define MIX(kinds) {kinds, sizeof(kinds) / sizeof *(kinds)}
 static const struct {
     const enum kind *kinds;
     uint32_t size;
-} mixes[] = {MIX(every), MIX(every), MIX(filling), MIX(deleting), MIX(ranging)};
+} mixes[] = {MIX(every), MIX(every), MIX(filling), MIX(deleting), MIX(ranging), MIX(dating), MIX(dating)};
 
 struct settings random_settings(void) {
     static const uint32_t buffers[] = {1, 1, 2, 3, 8, 64}, terms[] = {1, 2, 9, 40, 1000, UINT32_MAX};
@@ -63,13 +64,36 @@ static size_t draw_rows(size_t live) {
     return count;
 }
 
-/* Dockets past the last, lo above hi, an early clock, or settings out of range. */
+/* A docket or an end that comes back now and then. */
+static void draw_span(struct load *load, struct call *c) {
+    const uint32_t *old = load->spans[random_below(REMEMBERED)];
+    c->lo = load->first + random_below(load->dockets);
+    c->hi = at_most(GUONTREM_MAX_DOCKET, (uint64_t)c->lo + random_between(0, load->width));
+    if (load->drawn >= REMEMBERED && one_in(5)) c->lo = old[0], c->hi = old[1];
+    load->spans[load->drawn % REMEMBERED][0] = c->lo, load->spans[load->drawn % REMEMBERED][1] = c->hi;
+}
+
+/* From 1 to the clock: the clock, one before it, an earlier call's and those about it, or any. */
+static uint32_t draw_date(struct load *load) {
+    uint32_t clock = load->clock, old = load->clocks[random_below(REMEMBERED)];
+    const uint32_t dates[] = {clock, clock, clock - 1, old, old, old, old - 1, 1, random_between(0, clock)};
+    uint32_t date = at_most(clock, RANDOM_OF(dates));
+    load->clocks[load->drawn++ % REMEMBERED] = clock;
+    return date == 0 ? 1 : date;
+}
+
+/* Dockets past the last, lo above hi, an early clock, a date of 0 or after the clock, or settings out of range; now and then two of them. */
 static void make_odd(struct call *c) {
     static const uint32_t far[] = {MOST_DOCKETS, MOST_DOCKETS + 5, UINT32_MAX};
     uint32_t *const numbers[] = {&c->settings.deepest, &c->settings.ratio, &c->settings.buffer, &c->settings.term};
     static const uint32_t wrong[][4] = {{0, 1, 7, UINT32_MAX}, {0, 1, 11, UINT32_MAX}, {0, 65, 66, UINT32_MAX}, {0, 0, 0, 0}};
     uint32_t which = random_below(4);
     *numbers[which] = RANDOM_OF(wrong[which]);
+    if (one_in(2)) {
+        const uint32_t dates[] = {0, at_most(UINT32_MAX, (uint64_t)c->clock + 1), UINT32_MAX};
+        c->date = RANDOM_OF(dates);
+        if (one_in(2)) return;
+    }
     if (one_in(2)) c->clock = one_in(4) ? 0 : random_below(c->clock);
     else if (one_in(2)) c->lo = c->hi = RANDOM_OF(far);
     else if (one_in(2)) c->hi = RANDOM_OF(far);
@@ -80,8 +104,8 @@ struct call random_call(struct load *load, const struct store *s) {
     static const uint32_t tallies[] = {0, 1, 9, UINT32_MAX};
     load->clock = at_most(UINT32_MAX, (uint64_t)load->clock + RANDOM_OF(load->steps));
     struct call c = {.kind = one_in(MAKE_SHARE) ? MAKE : load->mix[random_below(load->mix_size)], .clock = load->clock, .settings = load->settings};
-    c.lo = load->first + random_below(load->dockets);
-    c.hi = at_most(GUONTREM_MAX_DOCKET, (uint64_t)c.lo + random_between(0, load->width));
+    draw_span(load, &c);
+    c.date = draw_date(load);
     c.tally = one_in(4) ? RANDOM_OF(tallies) : random_word();
     if (c.kind == MAKE && one_in(2)) c.settings = random_settings();
     if (one_in(ODD_SHARE)) make_odd(&c);

@@ -13,12 +13,12 @@
 /* One in so many calls is made by the header's wrappers too. */
 enum { WRAPPED_SHARE = 8 };
 
-const char *const kind_names[KINDS] = {"make", "check", "lookup", "scan", "put", "delete", "delete_range", "flush", "tick"};
+const char *const kind_names[KINDS] = {"make", "check", "lookup", "scan", "put", "delete", "delete_range", "delete_range_dated", "flush", "tick"};
 
 void fail(const char *what, const struct pair *p, const struct call *c) {
     printf("FAILED: %s\n", what);
-    printf("  %s, clock %u, lo %u, hi %u, tally %u, rows %zu, settings %u %u %u %u\n", kind_names[c->kind], c->clock, c->lo, c->hi, c->tally, c->row_count,
-           c->settings.deepest, c->settings.ratio, c->settings.buffer, c->settings.term);
+    printf("  %s, clock %u, lo %u, hi %u, date %u, tally %u, rows %zu, settings %u %u %u %u\n", kind_names[c->kind], c->clock, c->lo, c->hi, c->date, c->tally,
+           c->row_count, c->settings.deepest, c->settings.ratio, c->settings.buffer, c->settings.term);
     printf("before the call:\n");
     print_store(&p->before);
     printf("after the proved call:\n");
@@ -84,6 +84,6 @@ struct answer run_both(struct pair *p, const struct call *c) {
     struct answer a = c->kind == SCAN ? scan_both(p, c) : call_both(p, c);
     compare_tables(p, c, a.refusal);
     if (counts.calls % WRAPPED_SHARE == 0) compare_wrapped(p, c);
-    count_call(c->kind, a);
+    count_call(c, a);
     return a;
 }

@@ -31,9 +31,10 @@ static void shuffle_slots(uint32_t slots) {
     }
 }
 
-static void append(uint32_t *e, struct chain *chain, uint32_t kind, uint32_t lo, uint32_t hi, uint32_t tally, uint32_t stamp) {
+/* The word is a put's tally or a range delete's date. */
+static void append(uint32_t *e, struct chain *chain, uint32_t kind, uint32_t lo, uint32_t hi, uint32_t word, uint32_t stamp) {
     uint32_t slot = order[--left];
-    e[4 * slot] = kind << 16, e[4 * slot + 1] = lo | hi << 16, e[4 * slot + 2] = tally, e[4 * slot + 3] = stamp;
+    e[4 * slot] = kind << 16, e[4 * slot + 1] = lo | hi << 16, e[4 * slot + 2] = word, e[4 * slot + 3] = stamp;
     if (chain->last != 0) e[4 * chain->last] |= slot;
     else chain->head = slot;
     chain->last = slot, chain->count++;
@@ -59,7 +60,8 @@ static struct chain lay_ranges(uint32_t *e, const struct span *span, uint32_t co
         if (span->end <= next || (begun && next == lo && span->end <= hi + 1)) break;
         hi = begun && next == lo ? hi + 1 : next + random_below(span->end - next);
         lo = next;
-        append(e, &chain, RANGE, lo, hi, 0, random_between(1, span->clock));
+        uint32_t stamp = random_between(1, span->clock);
+        append(e, &chain, RANGE, lo, hi, one_in(4) ? stamp : random_between(1, stamp), stamp);
     }
     return chain;
 }
@@ -79,7 +81,7 @@ static void lay_level(struct store *s, const struct span *span, uint32_t level) 
 void lay_sound(struct store *s) {
     struct settings settings = random_settings();
     uint32_t slots = slot_count(s), deepest = (uint32_t)(s->level_words / 4 - 2);
-    const uint32_t spaces[] = {30, slots, slots + 1, 2 * slots, MOST_DOCKETS};
+    const uint32_t spaces[] = {4, 30, slots, slots + 1, 2 * slots, MOST_DOCKETS};
     uint32_t space = at_most(MOST_DOCKETS, RANDOM_OF(spaces)), clock = one_in(4) ? random_between(1, UINT32_MAX) : random_between(1, 50);
     struct span span = {one_in(2) ? 0 : MOST_DOCKETS - space, 0, one_in(2) ? 1 : 1 + space / slots, clock};
     span.end = span.first + space;
@@ -119,6 +121,19 @@ static void close_ring(struct store *s) {
     set_next(s, last, slot);
 }
 
+/* The date of a range delete is 0 or after its stamp; false where no slot has one. */
+static bool misdate(struct store *s) {
+    uint32_t slots = slot_count(s), begin = random_slot(s);
+    for (uint32_t i = 0; i < slots; i++) {
+        uint32_t *row = s->entries + 4 * (1 + (begin + i) % slots);
+        const uint32_t dates[] = {0, at_most(UINT32_MAX, (uint64_t)row[3] + 1), UINT32_MAX};
+        if (row[0] >> 16 != RANGE) continue;
+        row[2] = RANDOM_OF(dates);
+        return true;
+    }
+    return false;
+}
+
 static void scatter_words(struct store *s) {
     uint32_t among = 1 + random_below(8);
     for (size_t i = 0; i < s->entry_words; i++)
@@ -129,13 +144,15 @@ static void scatter_words(struct store *s) {
 }
 
 const char *const damage_names[DAMAGES] = {
-    "tables with one word changed", "with two words changed", "with two links exchanged", "with a ring", "with random words",
+    "tables with one word changed", "with two words changed", "with two links exchanged", "with a ring", "with a date out of range", "with random words",
     "with a table of no words", "with a table of one word", "with other lengths",
 };
 
 enum damage damage(struct store *s) {
-    static const enum damage ways[] = {ONE_WORD, ONE_WORD, ONE_WORD, TWO_WORDS, LINKS, RING, RANDOM_WORDS};
+    static const enum damage ways[] = {ONE_WORD, ONE_WORD, ONE_WORD, TWO_WORDS, LINKS, RING, DATE, RANDOM_WORDS};
     enum damage way = RANDOM_OF(ways);
+    if (way == DATE && misdate(s)) return DATE;
+    if (way == DATE) way = ONE_WORD;
     switch (way) {
     case LINKS: exchange_links(s); break;
     case RING: close_ring(s); break;

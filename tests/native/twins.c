@@ -14,50 +14,72 @@
 /* Set in the chosen put's tally alone: other tallies have none of these bits, and the last byte of any docket, slot, clock or term has not. */
 static const uint32_t marked_bits = 0x80808080, last_marked_docket = 0x7fff;
 
+/* The earliest accepted clock of a delete over the put that waits in the buffer, and of one that has left it; 0 for none. */
+struct fate {
+    uint32_t waiting, gone;
+};
+
 struct twins {
     struct store one, two;
     struct pair steps;
-    uint32_t docket, tallies[2], term;
-    /* The earliest accepted clock of a delete over the docket that waits in the buffer, and of one that has left it; 0 for none. */
-    uint32_t waiting, gone;
-    bool erased, differed, seen;
+    uint32_t docket, clock, tallies[2], term;
+    /* Of all deletes, and of those without an earlier date. */
+    struct fate deletes, undated;
+    bool erased, dated, differed, seen;
 };
 
 static struct {
-    uint64_t lists, differed, erased, both, seen;
+    uint64_t lists, differed, erased, both, dated, seen;
 } met;
 
 static bool table_holds(const uint32_t *table, size_t words, uint32_t tally) { return memmem(table, words * sizeof *table, &tally, sizeof tally) != NULL; }
 
 static bool holds_bytes(const struct store *s, uint32_t tally) { return table_holds(s->entries, s->entry_words, tally) || table_holds(s->levels, s->level_words, tally); }
 
-static bool is_write(const struct call *c) { return c->kind == PUT || c->kind == DELETE || c->kind == DELETE_RANGE; }
+static bool is_range(const struct call *c) { return c->kind == DELETE_RANGE || c->kind == DELETE_RANGE_DATED; }
 
-static uint32_t last_docket(const struct call *c) { return c->kind == DELETE_RANGE ? c->hi : c->lo; }
+static bool is_write(const struct call *c) { return c->kind == PUT || c->kind == DELETE || is_range(c); }
+
+static uint32_t last_docket(const struct call *c) { return is_range(c) ? c->hi : c->lo; }
+
+/* Only a date asks for the clock of a put. */
+static bool covers(const struct call *c, uint32_t docket, uint32_t clock) {
+    return c->lo <= docket && docket <= last_docket(c) && (c->kind != DELETE_RANGE_DATED || clock <= c->date);
+}
 
 /* "If no slot is free and the entry would free none in the buffer". */
 static bool is_crowded(const struct store *s, const struct call *c) {
     const uint32_t *e = s->entries, *buffer = level_row(s, 0);
     if (e[0] != 0) return false;
     for (uint32_t at = buffer[0]; at != 0; at = e[4 * at] & 65535)
-        if (c->lo <= (e[4 * at + 1] & 65535) && (e[4 * at + 1] & 65535) <= last_docket(c)) return false;
-    for (uint32_t at = buffer[1]; c->kind == DELETE_RANGE && at != 0; at = e[4 * at] & 65535)
+        if (covers(c, e[4 * at + 1] & 65535, e[4 * at + 3])) return false;
+    for (uint32_t at = buffer[1]; is_range(c) && at != 0; at = e[4 * at] & 65535)
         if (e[4 * at + 1] == (c->lo | c->hi << 16)) return false;
     return true;
 }
 
 static uint32_t earlier(uint32_t a, uint32_t b) { return a == 0 || (b != 0 && b < a) ? b : a; }
 
+static void merge_buffer(struct fate *f) { f->gone = earlier(f->gone, f->waiting), f->waiting = 0; }
+
+static void add_delete(struct fate *f, uint32_t clock, bool left) {
+    uint32_t *in = left ? &f->gone : &f->waiting;
+    *in = earlier(*in, clock);
+}
+
+static bool is_over(const struct twins *t, const struct fate *f, uint32_t clock) { return f->gone != 0 && t->term <= clock - f->gone; }
+
 /* What became of the deletes over the docket, by document 01's words. `merged` is whether the buffer was merged before an entry. */
 static void follow(struct twins *t, const struct call *c, uint32_t refusal, bool merged) {
-    bool covers = (c->kind == DELETE || c->kind == DELETE_RANGE) && c->lo <= t->docket && t->docket <= last_docket(c);
+    bool erases = is_write(c) && c->kind != PUT && covers(c, t->docket, t->clock);
     /* A delete in the buffer leaves a record there, so an empty buffer has been merged; a delete on level L leaves it empty too. */
     bool empty = level_row(&t->steps.native, 0)[2] == 0;
-    if (merged || empty) t->gone = earlier(t->gone, t->waiting), t->waiting = 0;
+    if (merged || empty) merge_buffer(&t->deletes), merge_buffer(&t->undated);
     if (refusal != 0) return;
-    if (covers && empty) t->gone = earlier(t->gone, c->clock);
-    if (covers && !empty) t->waiting = earlier(t->waiting, c->clock);
-    if (t->gone != 0 && t->term <= c->clock - t->gone) t->erased = true;
+    if (erases) add_delete(&t->deletes, c->clock, empty);
+    if (erases && !(c->kind == DELETE_RANGE_DATED && c->date < c->clock)) add_delete(&t->undated, c->clock, empty);
+    if (t->erased || !is_over(t, &t->deletes, c->clock)) return;
+    t->erased = true, t->dated = !is_over(t, &t->undated, c->clock);
 }
 
 static struct answer call_all(struct twins *t, const struct call *c, const struct call *other) {
@@ -67,8 +89,8 @@ static struct answer call_all(struct twins *t, const struct call *c, const struc
     copy_words(&t->steps.proved, &t->one);
     if (one != two) fail("the twins' answers differ", &t->steps, c);
     if (one != expected) fail("the answers differ", &t->steps, c);
-    count_call(c->kind, a);
-    count_call(c->kind, a);
+    count_call(c, a);
+    count_call(c, a);
     return a;
 }
 
@@ -113,12 +135,12 @@ static void run_list(uint32_t slots, uint32_t length) {
     call_all(&t, &make, &make);
     for (uint32_t i = 0, chosen = random_below(length / 2); i < length; i++) {
         struct call c = twin_call(&load, &t.one), other;
-        if (i == chosen) put.clock = c.clock, put.lo = t.docket, put.tally = t.tallies[0], c = put;
+        if (i == chosen) put.clock = c.clock, put.lo = t.docket, put.tally = t.tallies[0], t.clock = c.clock, c = put;
         other = c;
         if (i == chosen) other.tally = t.tallies[1];
         step(&t, &c, &other, chosen < i);
     }
-    met.lists++, met.differed += t.differed, met.erased += t.erased, met.both += t.differed && t.erased, met.seen += t.seen && t.erased;
+    met.lists++, met.differed += t.differed, met.erased += t.erased, met.both += t.differed && t.erased, met.dated += t.differed && t.dated, met.seen += t.seen && t.erased;
     free_store(&t.one);
     free_store(&t.two);
     free_pair(&t.steps);
@@ -134,7 +156,9 @@ void run_twins(uint64_t calls) {
         run_list(sizes[size].slots, sizes[size].length);
     }
     printf("%12" PRIu64 "  twin lists: in %" PRIu64 " words differed, in %" PRIu64 " the put was erased, in %" PRIu64 " both\n", met.lists, met.differed, met.erased, met.both);
+    printf("%12" PRIu64 "  of these erased by deletes with an earlier date\n", met.dated);
     printf("%12" PRIu64 "  twin lists whose erased tally had been in the tables\n", met.seen);
     require(met.lists / 10 < met.both, "lists in which words differed and the put was erased");
+    require(met.lists / 200 <= met.dated, "lists in which deletes with an earlier date erased the put");
     require(met.both == met.seen, "an erased tally was in the tables exactly where words differed");
 }

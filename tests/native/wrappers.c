@@ -23,6 +23,7 @@ static struct answer wrapped_call(struct guontrem_store *s, const struct call *c
     case PUT: return of_timed(guontrem_store_put(s, c->clock, c->lo, c->tally));
     case DELETE: return of_timed(guontrem_store_delete(s, c->clock, c->lo));
     case DELETE_RANGE: return of_timed(guontrem_store_delete_range(s, c->clock, c->lo, c->hi));
+    case DELETE_RANGE_DATED: return of_timed(guontrem_store_delete_range_dated(s, c->clock, c->lo, c->hi, c->date));
     case FLUSH: return of_timed(guontrem_store_flush(s, c->clock));
     case TICK: return of_timed(guontrem_store_tick(s, c->clock));
     default: abort();
