@@ -9,14 +9,14 @@ use table_slots::set_value;
 use table_slots::stamp_of;
 ghost use mathlib.Core.Path.{_≡_};
 ghost use Prim.Native.Nat.{_<_, max};
-ghost use Rattle.tables.specs.Slots.{InTable, date-of, stamp-of};
-ghost use Rattle.chain_links.specs.Links.{linked, released, stamped};
+ghost use Rattle.tables.specs.Slots.{InTable};
+ghost use Rattle.chain_links.specs.Links.{linked, released, later-taken};
 
 // Of two ranges alike the one that stays takes the later date and the later stamp.
 pub fn take_later(e: &mut [u32], slot: usize, other: usize)
     requires { ⌜ InTable (now e) slot ⌝ }
     requires { ⌜ InTable (now e) other ⌝ }
-    ensures { λ _. ⌜ now (e .exit) ≡ stamped (now (e .entry)) slot (max (date-of (now (e .entry)) slot) (date-of (now (e .entry)) other)) (max (stamp-of (now (e .entry)) slot) (stamp-of (now (e .entry)) other)) ⌝ }
+    ensures { λ _. ⌜ now (e .exit) ≡ later-taken (now (e .entry)) slot other ⌝ }
 {
     let date = later(date_of(e, slot), date_of(e, other));
     let stamp = later(stamp_of(e, slot), stamp_of(e, other));

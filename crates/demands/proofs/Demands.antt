@@ -89,7 +89,7 @@ module _ (w : Tables) where
   pub delete-never-full : (t k : ℕ) → call-tables w (record { clock = t; op = written (delete k) }) .answer .refusal ≢ 7
   delete-never-full = refusals.delete-never-full w
 
-  pub delete-range-never-full : (t lo hi : ℕ) → call-tables w (record { clock = t; op = written (delete-range lo hi) }) .answer .refusal ≢ 7
+  pub delete-range-never-full : (t lo hi date : ℕ) → call-tables w (record { clock = t; op = written (delete-range lo hi date) }) .answer .refusal ≢ 7
   delete-range-never-full = refusals.delete-range-never-full w
 
 -- A lookup is refused in exactly the listed cases, by document 01's numbers of its answer; a refusal "gives its number and zeros".
@@ -133,15 +133,14 @@ module _ (w : Tables) (c : Call ℕ) where
   accepted-settles = accepted.accepted-settles w c
 
 -- "which slot a record occupies, and with it the order of the free chain; neither may hang on a tally", and no other word or answer does: from tables of any
--- content that differ in tallies alone and meet the same of refusals 1 to 3, or none, lists that differ in tallies alone leave tables that do.
+-- content that differ in the tallies of puts alone, lists that differ in tallies alone leave tables that do.
 module _ (w v : Tables) (fits : Fits32 (w .entries)) (fits′ : Fits32 (v .entries)) (same : SameButTallies w v)
-    (check : table-refusal (w .entries) (w .levels) ≡ table-refusal (v .entries) (v .levels))
     (cs ds : List (Call ℕ)) (alike : map untallied cs ≡ map untallied ds) where
   pub words-blind : SameButTallies (run-tables w cs) (run-tables v ds)
-  words-blind = tallies.words-blind w v fits fits′ same check cs ds alike
+  words-blind = tallies.words-blind w v fits fits′ same cs ds alike
 
   pub answers-blind : answers-tables w cs ≡ answers-tables v ds
-  answers-blind = tallies.answers-blind w v fits fits′ same check cs ds alike
+  answers-blind = tallies.answers-blind w v fits fits′ same cs ds alike
 
 -- From what an accepted making left, after every list of timed calls.
 module _ (n : ℕ) (s : Settings) (low : 1 ≤ n) (high : n ≤ 65535) (ok : allowed s ≡ true) where
@@ -158,13 +157,17 @@ module _ (n : ℕ) (s : Settings) (low : 1 ≤ n) (high : n ≤ 65535) (ok : all
       → (call-tables (tables-after n s cs) (record { clock = t; op = written (put k a) }) .answer .refusal ≡ 7) ↔ SlotsLive k (tables-after n s cs)
   full-after = made.full-after n s low high ok
 
-  -- A delete of all dockets is accepted at every clock that is not refused.
+  -- A delete of all dockets is accepted at every clock that is not refused: without a date, which "has its own clock as s", and with any from 1 to the clock.
   pub widest-accepted : (cs : List (Call ℕ)) (t : ℕ) → bad-clock t (clock-of (tables-after n s cs .entries)) ≡ false
-      → call-tables (tables-after n s cs) (record { clock = t; op = written (delete-range 0 65535) }) .answer .refusal ≡ 0
+      → call-tables (tables-after n s cs) (record { clock = t; op = written (delete-range 0 65535 t) }) .answer .refusal ≡ 0
   widest-accepted = made.widest-accepted n s low high ok
 
+  pub widest-dated-accepted : (cs : List (Call ℕ)) (t date : ℕ) → bad-clock t (clock-of (tables-after n s cs .entries)) ≡ false → 1 ≤ date → date ≤ t
+      → call-tables (tables-after n s cs) (record { clock = t; op = written (delete-range 0 65535 date) }) .answer .refusal ≡ 0
+  widest-dated-accepted = made.widest-dated-accepted n s low high ok
+
   -- DEMAND 2: a lookup finds tally a with stamp t exactly when some call of the list was a put of that docket with a at t, answered 0, and no later call that was
-  -- answered 0 puts the docket or deletes over it.
+  -- answered 0 puts the docket or covers that put: a delete of the docket, or a range delete over it with t at most its date.
   pub found-exactly : (cs : List (Call ℕ)) (k a t : ℕ)
       → (lookup-tables (tables-after n s cs .entries) (tables-after n s cs .levels) k ≡ Found a t)
       ↔ LastPut (map (λ (r : Answer). r .refusal) (answers-tables (made-tables n s) cs)) cs k a t

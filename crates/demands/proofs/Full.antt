@@ -1,17 +1,17 @@
 -- A put is refused 7 exactly when every slot holds a different live docket and its own is not among them, on every pair of sound tables.
 use mathlib.Core.Path.{_≡_, refl, sym, ap, subst, _∙_}
 use mathlib.Core.Logic.{_↔_, _≢_}
-use mathlib.Core.Bool.{Bool, true, false, cond, _&&_, _||_, false≢true}
+use mathlib.Core.Bool.{Bool, true, false, cond, _||_, false≢true}
 use mathlib.Core.List.{List, [], _∷_, _++_, map}
 use Prim.Native.Nat.{ℕ, zero, suc, _+_, _≤_}
 use native.Mathlib.Omega.{arith}
 use native.Mathlib.Decide.{ℕ-discrete}
-use lib.Dec.{eqb, leb}
+use lib.Dec.{eqb}
 use lib.ListN.{length, length-map}
 use borrow.Author.Tests.{eqb-true, eq-eqb, ne-eqb, le-ltb}
 use Rattle.lists.specs.Lists.{any, count}
 use Rattle.lists.specs.All.{All}
-use Rattle.lists.proofs.Bools.{by-cases, and-left, and-right, eqb-sym}
+use Rattle.lists.proofs.Bools.{by-cases, eqb-sym}
 use Rattle.lists.proofs.Tests.{all-weaken, any-map, any-same}
 use Rattle.lists.proofs.Counts.{count-map, none-counted}
 use Rattle.lists.proofs.Counting.{Distinct, pigeonhole}
@@ -22,19 +22,20 @@ use Rattle.model.specs.Calls.{written, bad-clock}
 use Rattle.model.specs.Lookup as model
 use Rattle.model.specs.Lookup.{absent, find, lookup}
 use Rattle.model.specs.Live.{all-points}
-use Rattle.model.proofs.LookupSteps.{merge-all-lookup}
 use Rattle.model.proofs.Slots.{Whole}
 use Rattle.model.proofs.Passing.{merge-all-counts}
-use Rattle.model.proofs.Puts.{PutsOnly, all-put, lookup-points, full-puts, full-free, full-once, full-lacks}
-use Rattle.model.proofs.Full.{AllPuts, bottom, found-named, live-slots, live-full}
+use Rattle.model.proofs.Aged.{Stamped}
+use Rattle.model.proofs.Puts.{PutsOnly, all-put, lookup-points, merge-all-lookup-puts, full-puts, full-free, full-once, full-lacks}
+use Rattle.model.proofs.Full.{AllPuts, points-all, bottom, found-named, live-slots, live-full}
 use Rattle.tables.specs.Words.{Fits32}
-use Rattle.tables.specs.Slots.{Slot, slots-of, kind-of, lo-of, hi-of, tally-of, clock-of}
+use Rattle.tables.specs.Slots.{Slot, slots-of, kind-of, lo-of, stamp-of, clock-of}
 use Rattle.tables.specs.Rows.{settings-of}
 use Rattle.tables.specs.Sound.{free-chain, point-chain, range-chain, is-range, table-refusal}
 use Rattle.tables.specs.Placed.{read-point, read-range, read-levels, read-state}
 use Rattle.tables.specs.Formed.{levels-slots, Formed}
 use Rattle.tables.proofs.Cells.{times, times-head}
 use Rattle.tables.proofs.Once.{Inside, OnceFacts, once-facts, once-inside, once-most}
+use Rattle.tables.proofs.Linked.{range-parts}
 use Rattle.tables.proofs.Remains.{free-slots-blank}
 use Rattle.tables.proofs.SoundWords.{Sound, sound-facts}
 use Rattle.tables.proofs.SoundChains.{free-ends, points-end, ranges-end}
@@ -92,6 +93,16 @@ module _ (w : Tables) (sound : table-refusal (w .entries) (w .levels) ≡ 0) (fo
   form : Whole n p
   form = whole n p formed
 
+  stamps : All (Stamped (p .clock)) (p .levels)
+  stamps = all-weaken _ _ (λ l f. f .point-stamps) (p .levels) (formed .levels-ok)
+
+  stamps-of : (rs : List ℕ) → All (λ (x : Point ℕ ℕ). (1 ≤ x .stamp) × (x .stamp ≤ p .clock)) (map (read-point e) rs) → All (λ s. 1 ≤ stamp-of e s) rs
+  stamps-of [] a = tt
+  stamps-of (s ∷ rs) a = (a .0 .0, stamps-of rs (a .1))
+
+  stamped : All (λ s. 1 ≤ stamp-of e s) ss
+  stamped = stamps-of ss (rw own (points-all _ (p .levels) stamps))
+
   -- Where no slot is free and all records are puts, every slot is a put's.
   module _ (free : p .free ≡ []) (puts : All PutsOnly (p .levels)) where
     once : OnceFacts n ss
@@ -123,8 +134,8 @@ module _ (w : Tables) (sound : table-refusal (w .entries) (w .levels) ≡ 0) (fo
     holds i h = record {
       is-put = kind i h;
       found = look (lo-of e i) (lo-small i)
-          ∙ ap answered (lookup-points (p .levels) (lo-of e i) puts ∙ ap (λ ps. find ps (lo-of e i) absent) (sym own)
-          ∙ find-own e i ss (kind i h) (stands free puts i h) (single (lo-of e i)));
+          ∙ ap answered (lookup-points (p .levels) (lo-of e i) puts ∙ ap (λ ps. find 0 ps (lo-of e i) absent) (sym own)
+          ∙ find-own e i ss (kind i h) (all-there _ ss i stamped (stands free puts i h)) (stands free puts i h) (single (lo-of e i)));
     }
 
     apart : (i j : ℕ) → IsSlot w i → IsSlot w j → lo-of e i ≡ lo-of e j → Dec (i ≡ j) → i ≡ j
@@ -163,9 +174,7 @@ module _ (w : Tables) (sound : table-refusal (w .entries) (w .levels) ≡ 0) (fo
         (all-weaken _ _ (λ s g q. omega (arith, ap (λ (r : Slot). r .link) g, q)) (free-chain e) (free-slots-blank e (w .levels) sound))
 
     range-kind : (s : ℕ) → is-range e s ≡ true → kind-of e s ≢ 1
-    range-kind s h q =
-        let three = and-right (leb (lo-of e s) (hi-of e s)) (eqb (kind-of e s) 3 && eqb (tally-of e s) 0) h in
-        omega (arith, q, eqb-true (kind-of e s) 3 (and-left (eqb (kind-of e s) 3) (eqb (tally-of e s) 0) three))
+    range-kind s h q = omega (arith, q, range-parts e s h .kind)
 
     no-ranges : (i : ℕ) → i ≤ settings-of (w .levels) .deepest → range-chain e (w .levels) i ≡ []
     no-ranges i h =
@@ -223,7 +232,7 @@ module _ (w : Tables) (sound : table-refusal (w .entries) (w .levels) ≡ 0) (fo
         let before : model.is-found (lookup (p .levels) (lo-of e s)) ≡ true =
         sym (found-is (lookup (p .levels) (lo-of e s))) ∙ ap finds (sym (look (lo-of e s) (lo-small s)) ∙ live .every s i .found) ∙ (unfold finds in refl) in
         found-named left (lo-of e s)
-        (ap model.is-found (sym (bottom n p form .finds (lo-of e s)) ∙ merge-all-lookup p (lo-of e s) (form .formed)) ∙ before)
+        (ap model.is-found (sym (bottom n p form .finds (lo-of e s)) ∙ merge-all-lookup-puts p (lo-of e s) (form .formed) all-puts) ∙ before)
 
     all-named : (rs : List ℕ) → All (Inside n) rs
         → All (λ x. any (eqb x) left-keys ≡ true) (map (lo-of e) rs)
@@ -263,7 +272,7 @@ module _ (w : Tables) (sound : table-refusal (w .entries) (w .levels) ≡ 0) (fo
         ))
 
     pub slots-full : (t a : ℕ) → no-slot t (put k a) p ≡ true
-    slots-full t a = live-full n p form k (live-slots n p form k (omega (arith, remain, bottom n p form .counted)) lacking) t a
+    slots-full t a = live-full n p form k (live-slots n p form stamps k (omega (arith, remain, bottom n p form .counted)) lacking) t a
 
   -- The clock of what the tables read as is their own.
   clock-is : p .clock ≡ clock-of e

@@ -5,5 +5,6 @@ pub mod Made
 pub mod LastPuts
 pub mod Events
 pub mod Numbers
+pub mod SameTables
 pub mod Tallies
 pub mod Demands

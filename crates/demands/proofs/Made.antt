@@ -2,10 +2,13 @@
 use mathlib.Core.Path.{_≡_, sym, ap, subst, _∙_}
 use mathlib.Core.Bool.{true, false}
 use mathlib.Core.List.{List, map}
-use mathlib.Core.Logic.{_↔_}
+use mathlib.Core.Logic.{_↔_, _≢_}
 use native.Mathlib.Omega.{arith}
 use Prim.Native.Nat.{ℕ, _<_, _≤_}
+use lib.Dec.{eqb, ltb}
 use lib.ListN.{length}
+use borrow.Author.Tests.{eqb-false, ne-eqb, le-ltb}
+use Rattle.lists.proofs.Bools.{or-false-left}
 use Rattle.settings.specs.declared.Settings.{Settings}
 use Rattle.settings.specs.Limits.{allowed}
 use Rattle.settings.proofs.Allowed.{allowed-bounds}
@@ -81,12 +84,19 @@ module _ (n : ℕ) (s : Settings) (low : 1 ≤ n) (high : n ≤ 65535) (ok : all
       → (call-tables (tables-after n s cs) (record { clock = t; op = written (put k a) }) .answer .refusal ≡ 7) ↔ SlotsLive k (tables-after n s cs)
   full-after cs = full-of-formed (tables-after n s cs) (always-sound cs) (rw (slots-are cs, reads cs) (formed cs))
 
-  -- Nothing but the clock can turn away a delete of all dockets.
-  pub widest-accepted : (cs : List (Call ℕ)) (t : ℕ) → bad-clock t (clock-of (tables-after n s cs .entries)) ≡ false
-      → call-tables (tables-after n s cs) (record { clock = t; op = written (delete-range 0 65535) }) .answer .refusal ≡ 0
+  -- Nothing but the clock and the date can turn away a delete of all dockets.
+  pub widest-dated-accepted : (cs : List (Call ℕ)) (t date : ℕ) → bad-clock t (clock-of (tables-after n s cs .entries)) ≡ false → 1 ≤ date → date ≤ t
+      → call-tables (tables-after n s cs) (record { clock = t; op = written (delete-range 0 65535 date) }) .answer .refusal ≡ 0
   unfolding no-slot
+  widest-dated-accepted cs t date b some past =
+      refused-exactly (tables-after n s cs) (record { clock = t; op = written (delete-range 0 65535 date) })
+      ∙ rw (always-sound cs, reads cs, clock-is cs, b, ne-eqb date 0 (omega (arith, some)), le-ltb t date past)
+
+  pub widest-accepted : (cs : List (Call ℕ)) (t : ℕ) → bad-clock t (clock-of (tables-after n s cs .entries)) ≡ false
+      → call-tables (tables-after n s cs) (record { clock = t; op = written (delete-range 0 65535 t) }) .answer .refusal ≡ 0
   widest-accepted cs t b =
-      refused-exactly (tables-after n s cs) (record { clock = t; op = written (delete-range 0 65535) }) ∙ rw (always-sound cs, reads cs, clock-is cs, b)
+      let some : t ≢ 0 = eqb-false t 0 (or-false-left (eqb t 0) (ltb t (clock-of (tables-after n s cs .entries))) b) in
+      widest-dated-accepted cs t t b (omega (arith, some)) (omega arith)
 
   pub lookups-as-map : (cs : List (Call ℕ)) (k : ℕ) → k ≤ 65535
       → lookup-tables (tables-after n s cs .entries) (tables-after n s cs .levels) k ≡ answered (get (map-run n no-rows cs .rows) k)

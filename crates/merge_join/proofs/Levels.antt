@@ -31,7 +31,9 @@ module _ {t : ℕ} {u l : Level ℕ ℕ} (f : LevelFormed t u) (g : LevelFormed 
 
   -- The cells that go are those of the records that go.
   points-under : All (λ p. under (point-cell p) ≡ point-goes u p) (l .points)
-  points-under = all-weaken Keyed _ (λ p low. rw (point-lo p low, points-name (u .points) (f .keys) (p .key), ranges-cover (u .ranges) (f .spans) (p .key))) (l .points) (g .keys)
+  points-under =
+      all-weaken Keyed _
+      (λ p low. rw (point-lo p low, points-name (u .points) (f .keys) (p .key), ranges-cover (u .ranges) (f .spans) (p .key) (p .stamp))) (l .points) (g .keys)
 
   ranges-doubled : All (λ q. double (range-cell q) ≡ range-goes (u .ranges) q) (l .ranges)
   ranges-doubled = all-weaken Spanned _ (range-doubled (u .ranges) (f .spans)) (l .ranges) (g .spans)

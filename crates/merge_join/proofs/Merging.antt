@@ -123,9 +123,9 @@ module _ {g : Levels} {e : List ℕ} {upper lower : Level} (h : LevelsHeld g e u
   splice-ranges-asks s =
       let left = ranges-left (h .upper-formed) (h .lower-formed) in
       let went = ranges-gone (h .upper-formed) (h .lower-formed) in
-      let stamps = later-ranges (g .lower .ranges) (h .lower-formed .spans) (g .upper .ranges) (h .upper-formed .spans) in
+      let dates = later-ranges (g .lower .ranges) (h .lower-formed .spans) (g .upper .ranges) (h .upper-formed .spans) in
       record {
-        held = rw (went, left, stamps, range-cell-slots (select (range-goes (g .upper .ranges)) (g .lower .ranges))) at (s .held);
+        held = rw (went, left, dates, range-cell-slots (select (range-goes (g .upper .ranges)) (g .lower .ranges))) at (s .held);
         upper-is = upper-ranges ∙ later-head (g .lower .ranges) (g .upper .ranges);
         lower-is = s .head-is ∙ ap head left;
       }

@@ -12,7 +12,7 @@ use Rattle.tables.specs.Placed.{Cell, head}
 use Rattle.chain_cells.specs.Cells.{cell-at, cell-key, cell-before, cell-date}
 use Rattle.chain_cells.specs.Held.{Held}
 use Rattle.chain_cells.specs.Order.{CellsOrdered}
-use Rattle.chain_links.specs.Links.{stamped}
+use Rattle.chain_links.specs.Links.{stamped, later-taken}
 use Rattle.chain_cells.specs.Sifting.{Sifting, sift-of}
 use Rattle.chain_cells.specs.Splicing.{Chains}
 use Rattle.chain_cells.proofs.Laws.{restamped}
@@ -37,7 +37,7 @@ module _ (g : Chains) (e : List ℕ) (m : Progress) (u : Uniting g e m) (a : Fir
     (alike : cell-key (cell-at e (m .upper)) ≡ cell-key (cell-at e (m .cursor .at))) where
   -- The table and the upper ranges after the date and the stamp were written.
   abbrev table : List ℕ
-  table = written e (m .upper) (cell-at e (m .upper)) (cell-at e (m .cursor .at))
+  table = later-taken e (m .upper) (m .cursor .at)
 
   abbrev upper : List Cell
   upper = u .passed ++ united-cell (a .cell) (l .cell) ∷ a .rest
@@ -149,9 +149,9 @@ module _ (g : Chains) (e : List ℕ) (m : Progress) (u : Uniting g e m) (a : Fir
 
 module _ (g : Chains) (e e′ : List ℕ) (m : Progress) (lower : m .cursor .at ≢ 0) (upper : m .upper ≢ 0)
     (alike : cell-key (cell-at e (m .upper)) ≡ cell-key (cell-at e (m .cursor .at)))
-    (written≡ : e′ ≡ written e (m .upper) (cell-at e (m .upper)) (cell-at e (m .cursor .at))) (u : Uniting g e m) where
+    (taken≡ : e′ ≡ later-taken e (m .upper) (m .cursor .at)) (u : Uniting g e m) where
   pub alike-seen : Seen true g e′ m
-  alike-seen = subst (λ (t : List ℕ). Seen true g t m) (sym written≡) (seen g e m u (upper-first g e m u upper) (lower-first g e m u lower) alike)
+  alike-seen = subst (λ (t : List ℕ). Seen true g t m) (sym taken≡) (seen g e m u (upper-first g e m u upper) (lower-first g e m u lower) alike)
 
   pub alike-sees : to-see e′ m ≡ to-see e m
-  alike-sees = ap (λ (t : List ℕ). to-see t m) written≡ ∙ sees g e m u (upper-first g e m u upper) (lower-first g e m u lower) alike
+  alike-sees = ap (λ (t : List ℕ). to-see t m) taken≡ ∙ sees g e m u (upper-first g e m u upper) (lower-first g e m u lower) alike
