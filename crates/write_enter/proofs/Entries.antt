@@ -22,10 +22,12 @@ use Rattle.chain_cells.specs.Splicing.{Chains, TwoHeld}
 use Rattle.chain_cells.specs.declared.Cursor.{Cursor}
 use Rattle.chain_cells.proofs.Laws.{swapped}
 use Rattle.chain_sieve.specs.Doomed.{doomed}
-use Rattle.chain_sieve.specs.declared.Doomed.the-variants.{Points, Range}
+use Rattle.chain_sieve.specs.declared.Doomed.{Doomed}
+use Rattle.chain_sieve.specs.declared.Doomed.the-variants.{Range}
 use Rattle.table_levels.specs.declared.Level.{Level}
 use Rattle.merge_join.proofs.Levels.{release-append}
-use Rattle.write_record.specs.Records.{record-of, record-cell}
+use Rattle.write_record.specs.Records.{record-of, record-cell, displaced-points}
+use Rattle.write_enter.specs.Uniting.{united}
 use Rattle.write_enter.specs.Taking.{Free, FreeHeld, Taken}
 use Rattle.write_enter.specs.Entering.{Entry, EntryHeld, free-then}
 use Rattle.write_record.specs.declared.Record.{Record}
@@ -43,10 +45,13 @@ some-room [] h = absurd (true≢false h)
 some-room (x ∷ xs) h = record { first = x; rest = xs; is = refl }
 
 -- Kind and dockets of an accepted write fit a slot.
-record-fits : (v : Write ℕ) → bad-docket (written v) ≡ false → (record-of v .kind ≤ 3) × (record-of v .lo ≤ 65535) × (record-of v .hi ≤ 65535)
+abbrev Fits : Record → Type 0
+Fits r = (r .kind ≤ 3) × (r .lo ≤ 65535) × (r .hi ≤ 65535)
+
+record-fits : (v : Write ℕ) → bad-docket (written v) ≡ false → Fits (record-of v)
 record-fits (put k a) d = let low = ltb-false 65535 k d in (omega arith, omega arith, omega arith)
 record-fits (delete k) d = let low = ltb-false 65535 k d in (omega arith, omega arith, omega arith)
-record-fits (delete-range lo hi) d =
+record-fits (delete-range lo hi date) d =
     let high = ltb-false 65535 hi (or-false-left (ltb 65535 hi) (ltb hi lo) d) in
     let order = ltb-false hi lo (or-false-right (ltb 65535 hi) (ltb hi lo) d) in (omega arith, omega arith, omega arith)
 
@@ -67,7 +72,16 @@ kept-ranges g = reject (range-goes (unplaced (g .time) (g .write) .ranges)) (g .
 abbrev pub points-free : Entry → List ℕ
 points-free g = release (point-slots (gone-points g)) (g .free)
 
--- The chains of the two sieves.
+-- The chain that is looked through first, and the chains of the two sieves.
+abbrev pub all-ranges : Entry → Chain
+all-ranges g = record {
+  slots = g .slots;
+  clock = g .clock;
+  free = g .free;
+  cells = map range-cell (g .buffer .ranges);
+  others = map point-cell (g .buffer .points) ∷ g .others;
+}
+
 abbrev pub buffer-points : Entry → Chain
 buffer-points g = record {
   slots = g .slots;
@@ -94,12 +108,23 @@ module _ {g : Entry} {e : List ℕ} {buffer : Level} {clock : ℕ} {w : Record} 
   pub points-asked : OneHeld (buffer-points g) e (buffer .points)
   points-asked = record { held = h .held; head-is = ap (λ (b : Level). b .points) (h .buffer-is) }
 
-  module _ {e′ : List ℕ} {m : Cursor} (s : Sifted (doomed (Points (w .lo) (w .hi))) (buffer-points g) e′ m) where
+  pub points-sifted : {which : Doomed} → which ≡ displaced-points w → {e′ : List ℕ} {m : Cursor}
+      → Sifted (doomed which) (buffer-points g) e′ m → Sifted (doomed (displaced-points w)) (buffer-points g) e′ m
+  points-sifted told s = rw told at s
+
+  -- The ranges, looked through before anything goes.
+  pub ranges-held : OneHeld (all-ranges g) e (buffer .ranges)
+  ranges-held = record {
+    held = swapped (g .slots) (g .clock) (g .free) (map point-cell (g .buffer .points)) (map range-cell (g .buffer .ranges)) (g .others) e (h .held);
+    head-is = ap (λ (b : Level). b .ranges) (h .buffer-is);
+  }
+
+  module _ {e′ : List ℕ} {m : Cursor} (s : Sifted (doomed (displaced-points w)) (buffer-points g) e′ m) where
     -- The cells that went and those that stayed are those of the points.
-    gone≡ : select (doomed (Points (w .lo) (w .hi))) (map point-cell (g .buffer .points)) ≡ map point-cell (gone-points g)
+    gone≡ : select (doomed (displaced-points w)) (map point-cell (g .buffer .points)) ≡ map point-cell (gone-points g)
     gone≡ = points-gone tt (g .time) (g .write) w (h .write-is) (g .buffer .points) (h .formed .keys)
 
-    left≡ : reject (doomed (Points (w .lo) (w .hi))) (map point-cell (g .buffer .points)) ≡ map point-cell (kept-points g)
+    left≡ : reject (doomed (displaced-points w)) (map point-cell (g .buffer .points)) ≡ map point-cell (kept-points g)
     left≡ = points-left tt (g .time) (g .write) w (h .write-is) (g .buffer .points) (h .formed .keys)
 
     pub points-head : m .head ≡ head (map point-cell (kept-points g))
@@ -139,25 +164,27 @@ module _ {g : Entry} {e : List ℕ} {buffer : Level} {clock : ℕ} {w : Record} 
         rw (release-append (point-slots (gone-points g)) (range-slots (gone-ranges g)) (g .free))
         (rw (ranges-gone≡, ranges-left≡, range-cell-slots (gone-ranges g)) at (s .held))
 
-  -- The record taken into the first free slot, and its cell put into the chain that it is for.
-  module _ (chain : List Cell) (others : List (List Cell)) where
+  -- The write's record fits a slot, with the later date too.
+  pub write-fits : Fits w
+  write-fits = rw (h .write-is) (record-fits (g .write) (h .dockets))
+
+  pub united-fits : {r : Record} (cs : List Cell) → r ≡ united cs w → Fits r
+  united-fits cs is = rw is write-fits
+
+  -- A record that fits taken into the first free slot, and its cell put into the chain that it is for.
+  module _ (r : Record) (chain : List Cell) (others : List (List Cell)) where
     abbrev pub to-take : Free
     to-take = record { slots = g .slots; clock = g .clock; first = room .first; rest = room .rest; chains = chain ∷ others }
 
     abbrev pub to-splice : Chains
-    to-splice = record { slots = g .slots; clock = g .clock; free = room .rest; upper = record-cell (room .first) clock w ∷ []; lower = chain; others = others }
+    to-splice = record { slots = g .slots; clock = g .clock; free = room .rest; upper = record-cell (room .first) clock r ∷ []; lower = chain; others = others }
 
-    pub slot-asked : {e′ : List ℕ} → Held (g .slots) (g .clock) (free-then g) (chain ∷ others) e′ → FreeHeld to-take e′ w
-    slot-asked k = record {
-      held = rw (room .is) at k;
-      kind-fits = rw (h .write-is) (record-fits (g .write) (h .dockets) .0);
-      lo-fits = rw (h .write-is) (record-fits (g .write) (h .dockets) .1);
-      hi-fits = rw (h .write-is) (record-fits (g .write) (h .dockets) .2);
-    }
+    pub slot-asked : Fits r → {e′ : List ℕ} → Held (g .slots) (g .clock) (free-then g) (chain ∷ others) e′ → FreeHeld to-take e′ r
+    slot-asked fits k = record { held = rw (room .is) at k; kind-fits = fits .0; lo-fits = fits .1; hi-fits = fits .2 }
 
-    pub chains-asked : {e′ : List ℕ} {slot first : ℕ} → Taken to-take clock w e′ slot → first ≡ head chain → TwoHeld to-splice e′ slot first
+    pub chains-asked : {e′ : List ℕ} {slot first : ℕ} → Taken to-take clock r e′ slot → first ≡ head chain → TwoHeld to-splice e′ slot first
     chains-asked {e′} k first≡ = record {
-      held = swapped (g .slots) (g .clock) (room .rest) (record-cell (room .first) clock w ∷ []) chain others e′ (k .held);
+      held = swapped (g .slots) (g .clock) (room .rest) (record-cell (room .first) clock r ∷ []) chain others e′ (k .held);
       upper-is = k .slot-is;
       lower-is = first≡;
     }

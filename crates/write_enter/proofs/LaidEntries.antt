@@ -10,7 +10,7 @@ use Rattle.model.specs.Records as model
 use Rattle.model.specs.Records.{State, empty, level, stored}
 use Rattle.model.specs.Merge.{release, merged}
 use Rattle.model.specs.Steps.{Write, single, displaced, enter-at, enter}
-use Rattle.model.specs.Calls.{written, bad-docket, timed}
+use Rattle.model.specs.Calls.{written, bad-docket, bad-date, timed}
 use Rattle.tables.specs.Rows.{set-row}
 use Rattle.tables.specs.Placed.{point-cell, range-cell, level-chains, level-words}
 use Rattle.tables.specs.Formed.{Formed}
@@ -82,7 +82,7 @@ enter-at-clock t v p [] = refl
 enter-at-clock t v p (x ∷ free) = refl
 
 module _ {g : Store} {e l : List ℕ} (v : Write ℕ) (laid : Laid g e l) (low : 1 ≤ g .time) (d : bad-docket (written v) ≡ false)
-    (room : none (release (displaced (g .time) v (g .state)) (g .state .free)) ≡ false) where
+    (day : bad-date (g .time) (written v) ≡ false) (room : none (release (displaced (g .time) v (g .state)) (g .state .free)) ≡ false) where
   entered-formed : Formed (g .slots) (timed (g .time) (enter (g .time) v (g .state)))
   unfolding enter
   entered-formed =
@@ -90,7 +90,7 @@ module _ {g : Store} {e l : List ℕ} (v : Write ℕ) (laid : Laid g e l) (low :
       let free : List ℕ = release (displaced (g .time) v (g .state)) (g .state .free) in
       rw (timed-enter-at (g .time) v (g .state) free)
       (at-formed (g .slots) (g .time) p (enter (g .time) v p) (laid .formed)
-      (entered-at (g .time) p low v p d room (formed-at (g .slots) (g .time) p (omega arith) (laid .formed))) (enter-at-clock (g .time) v p free))
+      (entered-at (g .time) p low v p d day room (formed-at (g .slots) (g .time) p (omega arith) (laid .formed))) (enter-at-clock (g .time) v p free))
 
   -- The tables with the entered buffer and its row hold the words of the entered state.
   entered-laid : {e′ : List ℕ} {r : Level} → Entered (entry g v) e′ r → Laid (at-state g (enter (g .time) v (g .state))) e′ (set-row l 0 (row-at r))
@@ -106,8 +106,9 @@ module _ {g : Store} {e l : List ℕ} (v : Write ℕ) (laid : Laid g e l) (low :
 
 -- The same at the clock of the code.
 pub entry-ends : {g : Store} {e l e′ l′ : List ℕ} {clock : ℕ} {r : Level} (v : Write ℕ)
-    → Laid g e l → 1 ≤ clock → g .time ≡ clock → bad-docket (written v) ≡ false
+    → Laid g e l → 1 ≤ clock → g .time ≡ clock → bad-docket (written v) ≡ false → bad-date clock (written v) ≡ false
     → none (release (displaced clock v (g .state)) (g .state .free)) ≡ false → Entered (entry g v) e′ r → l′ ≡ set-row l 0 (row-at r)
     → Laid (at-state g (enter clock v (g .state))) e′ l′
-entry-ends {g} v laid low t d room n words =
-    rw (← t, words) (entered-laid v laid (omega arith) d (ap (λ (k : ℕ). none (release (displaced k v (g .state)) (g .state .free))) t ∙ room) n)
+entry-ends {g} v laid low t d day room n words =
+    rw (← t, words) (entered-laid v laid (omega arith) d (ap (λ (k : ℕ). bad-date k (written v)) t ∙ day)
+    (ap (λ (k : ℕ). none (release (displaced k v (g .state)) (g .state .free))) t ∙ room) n)

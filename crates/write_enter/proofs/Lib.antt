@@ -1,4 +1,6 @@
 -- What an entry leaves of the chains and the levels.
+pub mod Unites
+pub mod Dates
 pub mod Takes
 pub mod Entries
 pub mod Entered

@@ -1,6 +1,7 @@
 // A write entered into the buffer: what it takes the place of goes, and its record comes into the first free slot.
 use chain_cells::splice;
 use chain_sieve::Doomed;
+use chain_sieve::first_doomed;
 use chain_sieve::sieve;
 use table_levels::Level;
 use table_levels::earlier;
@@ -8,11 +9,13 @@ use table_levels::level_at;
 use table_levels::set_level;
 use table_slots::PUT;
 use table_slots::RANGE;
+use table_slots::date_of;
 use table_slots::first_free;
 use table_slots::next_of;
 use table_slots::set_first_free;
 use table_slots::set_record;
 use write_record::Record;
+use write_record::displaced_points;
 ghost use mathlib.Core.Path.{_≡_};
 ghost use mathlib.Core.Logic.{_≢_};
 ghost use mathlib.Core.Bool.{cond, false};
@@ -22,9 +25,11 @@ ghost use Rattle.lists.specs.All.{Exists};
 ghost use Rattle.lists.specs.Lists.{none};
 ghost use Rattle.model.specs.Merge.{earlier, release};
 ghost use Rattle.model.specs.Steps.{Write, displaced, enter};
-ghost use Rattle.model.specs.Calls.{written, bad-docket};
+ghost use Rattle.model.specs.Calls.{written, bad-docket, bad-date};
+ghost use Rattle.chain_cells.specs.Sifting.{Chain, OneHeld};
 ghost use Rattle.merge_levels.specs.Laid.{Store, Laid, at-state};
 ghost use Rattle.write_record.specs.Records.{record-of};
+ghost use Rattle.write_enter.specs.Uniting.{united};
 ghost use Rattle.write_enter.specs.Taking.{Free, FreeHeld, Taken};
 ghost use Rattle.write_enter.specs.Entering.{Entry, EntryHeld, Entered, Entering};
 
@@ -33,7 +38,7 @@ pub fn enter(e: &mut [u32], l: &mut [u32], clock: u32, w: Record)
     requires { ⌜ Exists (λ g. Entering g (now e) (now l) clock w) ⌝ }
     requires { ⌜ 1 ≤ clock ⌝ }
     ensures { λ _. ⌜ ((g : Store) (v : Write ℕ) → Laid g (now (e .entry)) (now (l .entry)) → g .time ≡ clock → w ≡ record-of v → bad-docket (written v) ≡ false
-        → none (release (displaced clock v (g .state)) (g .state .free)) ≡ false → Laid (at-state g (enter clock v (g .state))) (now (e .exit)) (now (l .exit))) ⌝ }
+        → bad-date clock (written v) ≡ false → none (release (displaced clock v (g .state)) (g .state .free)) ≡ false → Laid (at-state g (enter clock v (g .state))) (now (e .exit)) (now (l .exit))) ⌝ }
 {
     let buffer = level_at(l, 0);
     if w.kind == RANGE {
@@ -45,15 +50,16 @@ pub fn enter(e: &mut [u32], l: &mut [u32], clock: u32, w: Record)
     set_level(l, 0, entered);
 }
 
-// A range delete in the buffer: the points that it covers go, and a range of the same dockets.
+// A range delete in the buffer: the points that it covers by its own date go, and a range of the same dockets, whose date it takes if that is the later one.
 fn enter_range(e: &mut [u32], buffer: Level, clock: u32, w: Record) -> Level
     requires { ⌜ Exists (λ g. EntryHeld g (now e) buffer clock w) ⌝ }
     requires { ⌜ w .kind ≡ 3 ⌝ }
     ensures { λ r. ⌜ ((g : Entry) → EntryHeld g (now (e .entry)) buffer clock w → Entered g (now (e .exit)) r) ⌝ }
 {
-    let points = sieve(e, buffer.points, Doomed::Points(w.lo, w.hi));
+    let united = unite(e, buffer.ranges, w);
+    let points = sieve(e, buffer.points, displaced_points(w));
     let ranges = sieve(e, buffer.ranges, Doomed::Range(w.lo, w.hi));
-    let slot = take(e, clock, w);
+    let slot = take(e, clock, united);
     let first = splice(e, slot, ranges.head);
     let owed = earlier(clock, buffer.owed);
     Level {
@@ -70,7 +76,7 @@ fn enter_point(e: &mut [u32], buffer: Level, clock: u32, w: Record) -> Level
     requires { ⌜ w .kind ≢ 3 ⌝ }
     ensures { λ r. ⌜ ((g : Entry) → EntryHeld g (now (e .entry)) buffer clock w → Entered g (now (e .exit)) r) ⌝ }
 {
-    let points = sieve(e, buffer.points, Doomed::Points(w.lo, w.hi));
+    let points = sieve(e, buffer.points, displaced_points(w));
     let slot = take(e, clock, w);
     let first = splice(e, slot, points.head);
     let owed = owed_with(w.kind, clock, buffer.owed);
@@ -79,6 +85,27 @@ fn enter_point(e: &mut [u32], buffer: Level, clock: u32, w: Record) -> Level
         ranges: buffer.ranges,
         held: buffer.held - points.gone + 1,
         owed: owed,
+    }
+}
+
+// The record of a range delete with the later of its date and that of a range of the same dockets.
+fn unite(e: &[u32], ranges: usize, w: Record) -> Record
+    requires { ⌜ Exists (λ g. OneHeld g (now e) ranges) ⌝ }
+    ensures { λ r. ⌜ ((g : Chain) → OneHeld g (now (e .entry)) ranges → r ≡ united (g .cells) w) ⌝ }
+{
+    let alike = first_doomed(e, ranges, Doomed::Range(w.lo, w.hi));
+    if alike == 0 {
+        return w;
+    }
+    let date = date_of(e, alike);
+    if date <= w.tally {
+        return w;
+    }
+    Record {
+        kind: w.kind,
+        lo: w.lo,
+        hi: w.hi,
+        tally: date,
     }
 }
 

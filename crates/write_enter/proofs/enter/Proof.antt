@@ -47,12 +47,12 @@ same-length-2 : tie.Need-same-length-2
 same-length-2 c = search needs
 
 returns : tie.Need-returns
-returns c g v laid t is d room =
+returns c g v laid t is d day room =
     let written = c .before .before in
     let entered = written .before .before .before .before in
     let read = range-read entered in
     let n = entered .enter-range .ensures _ (entry-asked v laid t is d room (read .level-at .ensures)) in
-    entry-ends v laid (start read .pre .1) t d room n (written .set-level .ensures)
+    entry-ends v laid (start read .pre .1) t d day room n (written .set-level .ensures)
 
 enter-point-requires : tie.Need-enter-point-requires
 enter-point-requires c κs =
@@ -75,12 +75,12 @@ same-length-4 : tie.Need-same-length-4
 same-length-4 c = search needs
 
 returns-2 : tie.Need-returns-2
-returns-2 c g v laid t is d room =
+returns-2 c g v laid t is d day room =
     let written = c .before .before in
     let entered = written .before .before .before .before in
     let read = point-read entered in
     let n = entered .enter-point .ensures _ (entry-asked v laid t is d room (read .level-at .ensures)) in
-    entry-ends v laid (start read .pre .1) t d room n (written .set-level2 .ensures)
+    entry-ends v laid (start read .pre .1) t d day room n (written .set-level2 .ensures)
 
 pub enter-spec : {M : Type 1} → statement M
 enter-spec =
