@@ -26,13 +26,13 @@ use Rattle.chain_cells.specs.Held.{Held, top}
 use Rattle.chain_cells.specs.Sifting.{OneHeld, Sifted}
 use Rattle.chain_cells.specs.declared.Cursor.{Cursor}
 use Rattle.chain_sieve.specs.Doomed.{doomed}
-use Rattle.chain_sieve.specs.declared.Doomed.the-variants as which
+use Rattle.chain_sieve.specs.declared.Doomed.{Doomed}
 use Rattle.merge_join.specs.Joining.{level-of}
 use Rattle.table_levels.specs.declared.Level.{Level}
 use Rattle.merge_levels.specs.Laid.{Store, Laid}
 use Rattle.table_levels.specs.Levels.{level-at}
 use Rattle.merge_levels.proofs.Store.{laid-deepest, laid-formed}
-use Rattle.write_record.specs.Records.{record-of}
+use Rattle.write_record.specs.Records.{record-of, displaced-points}
 use Rattle.write_act.specs.Acting.{Points, PointsHeld, Overwritten, can-act, Acted}
 use Rattle.write_record.specs.declared.Record.{Record}
 use Rattle.chain_cells.proofs.Bounds.{first-head-fits, second-head-fits, two-few}
@@ -64,25 +64,25 @@ timed-act : (t : ℕ) (v : Write ℕ) (p : State ℕ ℕ) → timed t (act-deepe
 unfolding act-deepest wipe set-points
 timed-act t (put k a) p = refl
 timed-act t (delete k) p = refl
-timed-act t (delete-range lo hi) p = refl
+timed-act t (delete-range lo hi date) p = refl
 
 act-clock : (t : ℕ) (v : Write ℕ) (p : State ℕ ℕ) → act-deepest t v p .clock ≡ p .clock
 unfolding act-deepest wipe set-points
 act-clock t (put k a) p = refl
 act-clock t (delete k) p = refl
-act-clock t (delete-range lo hi) p = refl
+act-clock t (delete-range lo hi date) p = refl
 
 -- Every write but a put wipes.
 act-wipes : (t : ℕ) (v : Write ℕ) (p : State ℕ ℕ) → record-of v .kind ≢ 1 → act-deepest t v p ≡ wipe (unplaced t v) (p .settings .deepest) p
 unfolding act-deepest
 act-wipes t (put k a) p ne = absurd (ne refl)
 act-wipes t (delete k) p ne = refl
-act-wipes t (delete-range lo hi) p ne = refl
+act-wipes t (delete-range lo hi date) p ne = refl
 
 wiping-can : (v : Write ℕ) (p : State ℕ ℕ) → record-of v .kind ≢ 1 → true ≡ can-act v p
 wiping-can (put k a) p ne = absurd (ne refl)
 wiping-can (delete k) p ne = refl
-wiping-can (delete-range lo hi) p ne = refl
+wiping-can (delete-range lo hi date) p ne = refl
 
 module _ {g : Store} {e l : List ℕ} (laid : Laid g e l) where
   module _ {d : ℕ} (deep : d ≡ settings-of l .deepest) {r : Level} (row : r ≡ level-at l d) where
@@ -175,11 +175,11 @@ module _ {g : Store} {e l : List ℕ} (laid : Laid g e l) where
     put-ends (put k a) is one {clock} t {e′} {found} o =
         put-acted k a (rw (← t) at (subst (λ (x : Record). Overwritten (deepest-points g) (x .lo) (x .tally) clock e′ found) is o))
     put-ends (delete k) is one t o = absurd (omega (arith, ap (λ (x : Record). x .kind) is))
-    put-ends (delete-range lo hi) is one t o = absurd (omega (arith, ap (λ (x : Record). x .kind) is))
+    put-ends (delete-range lo hi date) is one t o = absurd (omega (arith, ap (λ (x : Record). x .kind) is))
 
     module _ (v : Write ℕ) {w : Record} (is : w ≡ record-of v) (ne : w .kind ≢ 1)
-        {d : ℕ} (deep : d ≡ settings-of l .deepest) {r : Level} (row : r ≡ level-at l d) {e′ : List ℕ} {m : Cursor}
-        (s : Sifted (doomed (which.Points (w .lo) (w .hi))) (points-of g (g .state .settings .deepest)) e′ m) where
+        {d : ℕ} (deep : d ≡ settings-of l .deepest) {r : Level} (row : r ≡ level-at l d) {which : Doomed} (told : which ≡ displaced-points w)
+        {e′ : List ℕ} {m : Cursor} (s : Sifted (doomed which) (points-of g (g .state .settings .deepest)) e′ m) where
       -- The row that the code leaves.
       abbrev left-row : Row
       left-row = record { points = m .head; ranges = r .ranges; held = r .held - m .gone; owed = r .owed }
@@ -198,13 +198,13 @@ module _ {g : Store} {e l : List ℕ} (laid : Laid g e l) where
       wiped = record { points = reject goes (deepest-level .points); ranges = deepest-level .ranges; owed = deepest-level .owed }
 
       -- The cells that went and those that stayed are those of the points.
-      gone≡ : select (doomed (which.Points (w .lo) (w .hi))) (map point-cell (deepest-level .points)) ≡ map point-cell (select goes (deepest-level .points))
+      gone≡ : select (doomed which) (map point-cell (deepest-level .points)) ≡ map point-cell (select goes (deepest-level .points))
       unfolding deepest-level goes
-      gone≡ = points-gone tt (g .time) v w is (deepest-level .points) (laid-formed g e l laid (g .state .settings .deepest) .keys)
+      gone≡ = rw told (points-gone tt (g .time) v w is (deepest-level .points) (laid-formed g e l laid (g .state .settings .deepest) .keys))
 
-      left≡ : reject (doomed (which.Points (w .lo) (w .hi))) (map point-cell (deepest-level .points)) ≡ map point-cell (reject goes (deepest-level .points))
+      left≡ : reject (doomed which) (map point-cell (deepest-level .points)) ≡ map point-cell (reject goes (deepest-level .points))
       unfolding deepest-level goes
-      left≡ = points-left tt (g .time) v w is (deepest-level .points) (laid-formed g e l laid (g .state .settings .deepest) .keys)
+      left≡ = rw told (points-left tt (g .time) v w is (deepest-level .points) (laid-formed g e l laid (g .state .settings .deepest) .keys))
 
       wiped-held : Held (g .slots) (g .state .clock) (release (point-slots (select goes (deepest-level .points))) (g .state .free))
           (map point-cell (wiped .points) ∷ map range-cell (wiped .ranges) ∷ level-chains (set (g .state .levels) (g .state .settings .deepest) empty)) e′

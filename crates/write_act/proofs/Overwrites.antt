@@ -9,13 +9,11 @@ use lib.Dec.{eqb}
 use lib.ListN.{length, set, length-set}
 use lib.Seq.{getD-set-same, getD-set-other}
 use Rattle.lists.specs.Lists.{select}
-use Rattle.lists.proofs.Bools.{by-cases, eqb-sym}
+use Rattle.lists.proofs.Bools.{by-cases}
 use Rattle.lists.proofs.Tests.{all-right, all-weaken, append-map, select-none}
 use Rattle.model.specs.Records.{Entry, value, tombstone, Point, is-put}
-use Rattle.model.specs.Coverage.{covers}
 use Rattle.model.specs.Merge.{names}
 use Rattle.model.specs.Steps.{overwrite}
-use Rattle.model.proofs.Coverage.{covers-one}
 use Rattle.tables.specs.Slots.{InTable, slot-at, set-slot, span-from, with-value}
 use Rattle.tables.proofs.Slots.{length-set-slot, slot-other, slot-same}
 use Rattle.tables.specs.Placed.{Cell, entry-kind, point-cell, head, cell-slot}
@@ -25,7 +23,7 @@ use Rattle.chain_cells.specs.Sifting.{Chain, OneHeld}
 use Rattle.chain_cells.proofs.Frames.{chain-end}
 use Rattle.chain_cells.proofs.Laws.{rewritten-first}
 use Rattle.chain_sieve.specs.Doomed.{doomed}
-use Rattle.chain_sieve.specs.declared.Doomed.the-variants.{Points}
+use Rattle.chain_sieve.specs.declared.Doomed.the-variants.{Docket}
 use Rattle.merge_join.proofs.Maps.{select-map-where}
 use Rattle.merge_join.proofs.Points.{Keyed, point-lo}
 use Rattle.write_act.specs.Acting.{PointsHeld, Overwritten}
@@ -50,11 +48,11 @@ module _ {g : acting.Points} {e : List ℕ} {first : ℕ} (h : PointsHeld g e fi
 
   module _ (k : ℕ) where
     -- The cells that the search stops at are those of the docket's points.
-    chosen : select (doomed (Points k k)) (map point-cell (g .points)) ≡ map point-cell (select (λ p. eqb (p .key) k) (g .points))
-    chosen = select-map-where point-cell (doomed (Points k k)) (λ p. eqb (p .key) k) (g .points)
-        (all-weaken Keyed _ (λ p low. ap (λ (n : ℕ). covers k k n) (point-lo p low) ∙ covers-one k (p .key) ∙ eqb-sym k (p .key)) (g .points) (h .keys))
+    chosen : select (doomed (Docket k)) (map point-cell (g .points)) ≡ map point-cell (select (λ p. eqb (p .key) k) (g .points))
+    chosen = select-map-where point-cell (doomed (Docket k)) (λ p. eqb (p .key) k) (g .points)
+        (all-weaken Keyed _ (λ p low. ap (λ (n : ℕ). eqb n k) (point-lo p low)) (g .points) (h .keys))
 
-    module _ {s : ℕ} (found : s ≡ head (select (doomed (Points k k)) (map point-cell (g .points)))) where
+    module _ {s : ℕ} (found : s ≡ head (select (doomed (Docket k)) (map point-cell (g .points)))) where
       s-is : s ≡ head (map point-cell (select (λ p. eqb (p .key) k) (g .points)))
       s-is = found ∙ ap head chosen
 

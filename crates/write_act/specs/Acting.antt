@@ -35,7 +35,7 @@ pub record Overwritten (g : Points) (k a t : ℕ) (e : List ℕ) (found : Bool) 
 abbrev pub can-act : Write ℕ → State ℕ ℕ → Bool
 can-act (put k a) s = names (level (s .settings .deepest) s .points) k
 can-act (delete k) s = true
-can-act (delete-range lo hi) s = true
+can-act (delete-range lo hi date) s = true
 
 pub record Acted (g : Store) (v : Write ℕ) (e l e′ l′ : List ℕ) (done : Bool) : Type 0 where
   pub laid : Laid (at-state g (act-deepest (g .time) v (g .state))) e′ l′

@@ -9,6 +9,7 @@ use table_levels::set_level;
 use table_slots::PUT;
 use table_slots::set_value;
 use write_record::Record;
+use write_record::displaced_points;
 ghost use mathlib.Core.Path.{_≡_};
 ghost use mathlib.Core.Bool.{false};
 ghost use Prim.Native.Nat.{ℕ, _≤_};
@@ -32,7 +33,7 @@ pub fn act(e: &mut [u32], l: &mut [u32], clock: u32, w: Record) -> bool
     if w.kind == PUT {
         return overwrite(e, level.points, clock, w.lo, w.tally);
     }
-    let points = sieve(e, level.points, Doomed::Points(w.lo, w.hi));
+    let points = sieve(e, level.points, displaced_points(w));
     set_level(
         l,
         deepest,
@@ -51,7 +52,7 @@ fn overwrite(e: &mut [u32], first: usize, clock: u32, docket: u32, tally: u32) -
     requires { ⌜ Exists (λ g. PointsHeld g (now e) first) ⌝ }
     ensures { λ r. ⌜ ((g : Points) → PointsHeld g (now (e .entry)) first → Overwritten g docket tally clock (now (e .exit)) r) ⌝ }
 {
-    let slot = first_doomed(e, first, Doomed::Points(docket, docket));
+    let slot = first_doomed(e, first, Doomed::Docket(docket));
     if slot == 0 {
         return false;
     }

@@ -38,7 +38,8 @@ pub fn enter(e: &mut [u32], l: &mut [u32], clock: u32, w: Record)
     requires { ⌜ Exists (λ g. Entering g (now e) (now l) clock w) ⌝ }
     requires { ⌜ 1 ≤ clock ⌝ }
     ensures { λ _. ⌜ ((g : Store) (v : Write ℕ) → Laid g (now (e .entry)) (now (l .entry)) → g .time ≡ clock → w ≡ record-of v → bad-docket (written v) ≡ false
-        → bad-date clock (written v) ≡ false → none (release (displaced clock v (g .state)) (g .state .free)) ≡ false → Laid (at-state g (enter clock v (g .state))) (now (e .exit)) (now (l .exit))) ⌝ }
+        → bad-date clock (written v) ≡ false → none (release (displaced clock v (g .state)) (g .state .free)) ≡ false
+        → Laid (at-state g (enter clock v (g .state))) (now (e .exit)) (now (l .exit))) ⌝ }
 {
     let buffer = level_at(l, 0);
     if w.kind == RANGE {

@@ -16,7 +16,7 @@ abbrev deepest-read : tie.After-level-at → tie.After-deepest-of
 deepest-read c = c .before .before
 
 abbrev row-read : tie.After-sieve → tie.After-level-at
-row-read c = c .before .before .before .before
+row-read c = c .before .before .before .before .before
 
 abbrev sieved : tie.After-struct-known3 → tie.After-sieve
 sieved c = c .before .before .before .before .before
@@ -64,9 +64,12 @@ returns c = λ g v laid t is d.
     let low = entry (deepest-read read) .pre .1 .0 in
     put-ends laid (rw t low) v is (put .if1 .taken) t (overwritten .overwrite .ensures _ (overwrite-asked laid deep (read .level-at .ensures)))
 
+displaced-points-requires : tie.Need-displaced-points-requires
+displaced-points-requires c κs = search needs
+
 sieve-requires : tie.Need-sieve-requires
 sieve-requires c κs =
-    let read = c .before .before .before in
+    let read = c .before .before .before .before in
     let deep = deepest-read read .deepest-of .ensures in
     let p = entry (deepest-read read) .pre .0 in
     record { value = points-of (p .value) (p .value .state .settings .deepest); has = wipe-asked (p .has .0) deep (read .level-at .ensures) }
@@ -102,7 +105,7 @@ returns-2 c = λ g v laid t is d.
     let row = read .level-at .ensures in
     let low = entry (deepest-read read) .pre .1 .0 in
     let sifted = wiped .sieve .ensures _ (wipe-asked laid deep row) in
-    wipe-ends laid (rw t low) v is (wiped .before .before .if1 .left) deep row sifted (written .set-level .ensures)
+    wipe-ends laid (rw t low) v is (wiped .before .before .before .if1 .left) deep row (wiped .before .displaced-points .ensures) sifted (written .set-level .ensures)
 
 pub act-spec : {M : Type 1} → statement M
 act-spec =
@@ -114,6 +117,7 @@ act-spec =
     same-length
     same-length-2
     returns
+    displaced-points-requires
     sieve-requires
     sub-t21
     set-level-requires
