@@ -87,7 +87,7 @@ module _ {e l : List ℕ} {t : ℕ} {op : Op ℕ} (b : Began e l t op) where
     pub full : r .full ≡ true → {a : Answer} → answer-of a ≡ refusing 7 → called e′ l′ a ≡ call-tables (lent e l) c
     full is q =
         rw (d .merged is .0, d .merged is .1, q)
-        (sym (call-steps ∙ ap (wrote (slots-of e)) (step-refuses p c (let-in (p .clock) c (b .dockets) (begun-time b)) (sym (d .full-is) ∙ is))))
+        (sym (call-steps ∙ ap (wrote (slots-of e)) (step-refuses p c (let-in (p .clock) c (b .dockets) (begun-time b) (b .dated)) (sym (d .full-is) ∙ is))))
 
     module _ (done : r .full ≡ false) {before : ℕ} (adds : before ≡ held-all (p .levels) + count-written op) where
       pub ending : Ending (at-state (store e l t) (work .state)) e′ l′ t before (r .merges)
@@ -97,4 +97,4 @@ module _ {e l : List ℕ} {t : ℕ} {op : Op ℕ} (b : Began e l t op) where
           → called e″ l″ a ≡ call-tables (lent e l) c
       ends f =
           rw (f .entries, f .levels, f .answer, d .works done .counts, adds)
-          (sym (call-steps ∙ ap (wrote (slots-of e)) (step-accepts p c (let-in (p .clock) c (b .dockets) (begun-time b)) (sym (d .full-is) ∙ done) ∙ accepted-is)))
+          (sym (call-steps ∙ ap (wrote (slots-of e)) (step-accepts p c (let-in (p .clock) c (b .dockets) (begun-time b) (b .dated)) (sym (d .full-is) ∙ done) ∙ accepted-is)))

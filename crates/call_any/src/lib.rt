@@ -3,7 +3,6 @@ use call_end::Answer;
 use call_end::finish;
 use call_end::refused;
 use call_op::Op;
-use call_op::dockets;
 use call_op::records_written;
 use call_prepare::prepare;
 use call_refusal::refusal_of;
@@ -14,12 +13,11 @@ ghost use Rattle.call_refusal.specs.Began.{Began};
 ghost use Rattle.call_end.specs.Coded.{called};
 ghost use Rattle.call_op.specs.Ops.{op-of};
 
-// Every timed call: the refusals 1 to 5 are asked for, then it is carried out.
+// Every timed call: what turns it away at once is asked for, then it is carried out.
 pub fn call(entries: &mut [u32], levels: &mut [u32], clock: u32, op: Op) -> Answer
     ensures { λ r. ⌜ called (now (entries .exit)) (now (levels .exit)) r ≡ call-tables (lent (now (entries .entry)) (now (levels .entry))) (record { clock = clock; op = op-of op }) ⌝ }
 {
-    let span = dockets(op);
-    let refusal = refusal_of(entries, levels, clock, span.lo, span.hi);
+    let refusal = refusal_of(entries, levels, clock, op);
     if refusal != 0 {
         return refused(refusal);
     }

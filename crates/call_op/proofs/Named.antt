@@ -15,5 +15,5 @@ module _ {op : code.Op} where
   pub dockets-delete : {k : ℕ} → op ≡ Delete k → bad-docket (op-of op) ≡ bad-dockets k k
   dockets-delete {k} is = rw is (one-docket k)
 
-  pub dockets-range : {lo hi : ℕ} → op ≡ DeleteRange lo hi → bad-docket (op-of op) ≡ bad-dockets lo hi
+  pub dockets-range : {lo hi date : ℕ} → op ≡ DeleteRange lo hi date → bad-docket (op-of op) ≡ bad-dockets lo hi
   dockets-range is = rw is

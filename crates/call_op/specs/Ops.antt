@@ -8,6 +8,6 @@ use Rattle.call_op.specs.declared.Op.the-variants.{Put, Delete, DeleteRa
 abbrev pub op-of : Op → model.Op ℕ
 op-of (Put docket tally) = model.written (put docket tally)
 op-of (Delete docket) = model.written (delete docket)
-op-of (DeleteRange lo hi) = model.written (delete-range lo hi)
+op-of (DeleteRange lo hi date) = model.written (delete-range lo hi date)
 op-of Flush = model.flush
 op-of Tick = model.tick

@@ -23,7 +23,7 @@ module _ (t : ℕ) (v : Write ℕ) (s : State ℕ ℕ) where
       go : (w : Write ℕ) → full t w s ≡ false → no-slot t w s ≡ false
       go (put k a) q = rw q
       go (delete k) q = refl
-      go (delete-range lo hi) q = refl
+      go (delete-range lo hi date) q = refl
 
   roomy : crowded t v s ≡ false → full t v s ≡ false
   unfolding full
@@ -59,7 +59,7 @@ module _ (t : ℕ) (v : Write ℕ) (s : State ℕ ℕ) where
           go : (w : Write ℕ) → crowded t w s ≡ true → no-slot t w s ≡ not (can-act w (merge-all s .state))
           go (put k a) q = rw (q, n, same)
           go (delete k) q = refl
-          go (delete-range lo hi) q = refl
+          go (delete-range lo hi date) q = refl
 
       pub acts : can-act v (merge-all s .state) ≡ true → (m : ℕ) → m ≡ merge-all s .merges → Leads t v s (act-deepest t v (merge-all s .state)) m
       unfolding prepared write make-room full

@@ -23,7 +23,7 @@ pub struct Prepared {
     pub merges: u32,
 }
 
-// A call whose refusals 1 to 5 have been asked for: its write, the merge of the buffer for a flush, nothing for a tick.
+// A call that nothing turns away at once: its write, the merge of the buffer for a flush, nothing for a tick.
 pub fn prepare(e: &mut [u32], l: &mut [u32], clock: u32, op: Op) -> Prepared
     requires { ⌜ Began (now e) (now l) clock (op-of op) ⌝ }
     ensures { λ r. ⌜ Prepares (now (e .entry)) (now (l .entry)) clock (op-of op) (now (e .exit)) (now (l .exit)) r ⌝ }

@@ -3,15 +3,14 @@ use mathlib.Core.Path.{_≡_, refl, sym, ap, _∙_}
 use mathlib.Core.Logic.{_≢_}
 use mathlib.Core.Bool.{Bool, true, false, cond}
 use mathlib.Core.List.{List}
-use Prim.Native.Nat.{ℕ, zero, suc, _<_, _≤_}
+use Prim.Native.Nat.{ℕ, _<_, _≤_}
 use native.Mathlib.Omega.{arith}
 use lib.Dec.{eqb, ltb}
-use lib.ListN.{length}
-use borrow.Author.Tests.{eq-eqb, ne-eqb, eqb-false, ltb-false, lt-ltb, le-ltb}
+use borrow.Author.Tests.{eq-eqb, ne-eqb, eqb-true, eqb-false, ltb-false, lt-ltb, le-ltb}
 use Rattle.settings.proofs.Allowed.{allowed-bounds}
 use Rattle.lists.proofs.Bools.{or-false-left, or-false-right}
-use Rattle.model.specs.Records.{State}
-use Rattle.model.specs.Calls.{Op, Call, refusing, bad-docket, bad-clock, refused, step}
+use Rattle.model.specs.Calls.{Op, Call, refusing, bad-docket, bad-clock, bad-date, early-refusal, step}
+use Rattle.model.proofs.StepView.{let-in-docket, let-in-time, let-in-date}
 use Rattle.tables.specs.Slots.{slots-of, InTable, clock-of}
 use Rattle.tables.specs.Words.{Fits32}
 use Rattle.tables.specs.Sound.{table-refusal}
@@ -56,101 +55,100 @@ module _ {e l : List ℕ} {t : ℕ} {op : Op ℕ} (b : Began e l t op) where
     levels = sound-words e l (b .fits) (b .sound) .levels;
   }
 
--- On sound tables a refusal of the step leaves the words as they are.
-kept-words : (e l : List ℕ) → Fits32 e → table-refusal e l ≡ 0 → (c : Call ℕ) (n : ℕ) → step (read-state e l) c ≡ refused n (read-state e l)
-    → call-tables (lent e l) c ≡ record { tables = lent e l; answer = refusing n }
-unfolding call-tables
-kept-words e l fits sound c n q = rw (sound, q) (ap (λ (w : Tables). record { tables = w; answer = refusing n }) (rewritten (lent e l) fits sound))
+-- The number r was found for an operation that names the dockets from lo to hi.
+pub record Checked (e l : List ℕ) (op : Op ℕ) (r : ℕ) : Type 0 where
+  pub lo : ℕ
+  pub hi : ℕ
+  pub dockets : bad-docket op ≡ bad-dockets lo hi
+  pub number : r ≡ docket-refusal e l lo hi
 
 -- The number that the code's tests give, one way out after the other.
-module _ (e l : List ℕ) (t lo hi : ℕ) {r : ℕ} (checked : r ≡ docket-refusal e l lo hi) where
-  pub refused-dockets : r ≢ 0 → r ≡ call-refusal e l t lo hi
-  refused-dockets h = rw (← checked, ne-eqb r 0 h)
+module _ {e l : List ℕ} {op : Op ℕ} {r : ℕ} (found : Checked e l op r) where
+  -- The tables and the dockets are asked for first, whatever the clock.
+  pub refused-dockets : (t : ℕ) → r ≢ 0 → r ≡ call-refusal e l (record { clock = t; op = op })
+  refused-dockets t = go (eqb (table-refusal e l) 0) (bad-docket op) _ (rw (← found .dockets) at (found .number))
+    where
+      go : (sound bad : Bool) (later : ℕ) → r ≡ cond sound (cond bad 4 0) (table-refusal e l) → r ≢ 0 → r ≡ cond sound (cond bad 4 later) (table-refusal e l)
+      go true true later q h = q
+      go true false later q h = absurd (h q)
+      go false bad later q h = q
 
   module _ (z : r ≡ 0) where
-    pub refused-zero : t ≡ 0 → 5 ≡ call-refusal e l t lo hi
-    refused-zero h = rw (← checked, eq-eqb r 0 z, eq-eqb t 0 h)
+    pub sound-tables : table-refusal e l ≡ 0
+    sound-tables = allowed-sound e l (found .lo) (found .hi) (sym (found .number) ∙ z)
 
-    module _ (n : t ≢ 0) where
-      pub refused-early : t < clock-of e → 5 ≡ call-refusal e l t lo hi
-      refused-early h = rw (← checked, eq-eqb r 0 z, ne-eqb t 0 n, lt-ltb t (clock-of e) h)
+    in-range : bad-docket op ≡ false
+    in-range = found .dockets ∙ allowed-dockets e l (found .lo) (found .hi) (sym (found .number) ∙ z)
 
-      pub not-refused : clock-of e ≤ t → 0 ≡ call-refusal e l t lo hi
-      not-refused h = rw (← checked, eq-eqb r 0 z, ne-eqb t 0 n, le-ltb t (clock-of e) h)
+    module _ (t : ℕ) where
+      abbrev call : Call ℕ
+      call = record { clock = t; op = op }
+
+      pub refused-zero : t ≡ 0 → 5 ≡ call-refusal e l call
+      refused-zero h = rw (sound-tables, in-range, eq-eqb t 0 h)
+
+      module _ (n : t ≢ 0) where
+        pub refused-early : t < clock-of e → 5 ≡ call-refusal e l call
+        refused-early h = rw (sound-tables, in-range, ne-eqb t 0 n, lt-ltb t (clock-of e) h)
+
+        module _ (h : clock-of e ≤ t) where
+          pub refused-date : bad-date t op ≡ true → 10 ≡ call-refusal e l call
+          refused-date d = rw (sound-tables, in-range, ne-eqb t 0 n, le-ltb t (clock-of e) h, d)
+
+          pub not-refused : bad-date t op ≡ false → 0 ≡ call-refusal e l call
+          not-refused d = rw (sound-tables, in-range, ne-eqb t 0 n, le-ltb t (clock-of e) h, d)
 
 -- Sound tables have a slot 0.
 pub sound-slot-zero : (e l : List ℕ) → table-refusal e l ≡ 0 → InTable e 0
 sound-slot-zero e l h = let f = sound-facts e l h in omega (arith, f .length-entries, f .few)
 
--- The number n was found for a call that names the dockets from lo to hi.
+-- The number n was found for a call.
 pub record Asked (e l : List ℕ) (t : ℕ) (op : Op ℕ) (n : ℕ) : Type 0 where
-  pub lo : ℕ
-  pub hi : ℕ
   pub fits : Fits32 e
-  pub dockets : bad-docket op ≡ bad-dockets lo hi
-  pub number : n ≡ call-refusal e l t lo hi
+  pub number : n ≡ call-refusal e l (record { clock = t; op = op })
 
 module _ {e l : List ℕ} {t : ℕ} {op : Op ℕ} {n : ℕ} (a : Asked e l t op n) where
-  abbrev call : Call ℕ
-  call = record { clock = t; op = op }
+  abbrev asked : Call ℕ
+  asked = record { clock = t; op = op }
 
-  abbrev lo : ℕ
-  lo = a .lo
+  abbrev early : ℕ
+  early = early-refusal (clock-of e) asked
 
-  abbrev hi : ℕ
-  hi = a .hi
-
-  -- Where it is none of 1 to 5 the call begins.
+  -- Where it is 0 the call begins.
   pub begun : n ≡ 0 → Began e l t op
-  begun none = go (docket-refusal e l lo hi) (bad-clock t (clock-of e)) refl refl (sym (a .number) ∙ none)
+  begun none = go (eqb (table-refusal e l) 0) refl (sym (a .number) ∙ none)
     where
-      some : {m : ℕ} → suc m ≢ 0
-      some h = absurd (omega arith)
-
-      go : (m : ℕ) (b : Bool) → docket-refusal e l lo hi ≡ m → bad-clock t (clock-of e) ≡ b → cond (eqb m 0) (cond b 5 0) m ≡ 0 → Began e l t op
-      go zero false q r h = record { sound = allowed-sound e l lo hi q; fits = a .fits; dockets = a .dockets ∙ allowed-dockets e l lo hi q; time = r }
-      go zero true q r h = absurd (omega arith)
-      go (suc m) b q r h = absurd (some (rw (ne-eqb (suc m) 0 (omega arith)) at h))
-
-  steps-4 : (p : State ℕ ℕ) → bad-docket op ≡ true → step p call ≡ refused 4 p
-  unfolding step
-  steps-4 p d = rw d
-
-  steps-5 : (p : State ℕ ℕ) → bad-docket op ≡ false → bad-clock t (p .clock) ≡ true → step p call ≡ refused 5 p
-  unfolding step
-  steps-5 p d b = rw (d, b)
-
-  read-clock : read-state e l .clock ≡ clock-of e
-  unfolding read-state
-  read-clock = refl
+      go : (sound : Bool) → eqb (table-refusal e l) 0 ≡ sound → cond sound early (table-refusal e l) ≡ 0 → Began e l t op
+      go true q h =
+          let met : eqb early 0 ≡ true = eq-eqb early 0 h in
+          record {
+            sound = eqb-true (table-refusal e l) 0 q;
+            fits = a .fits;
+            dockets = let-in-docket (clock-of e) asked met;
+            time = let-in-time (clock-of e) asked met;
+            dated = let-in-date (clock-of e) asked met;
+          }
+      go false q h = absurd (eqb-false (table-refusal e l) 0 q h)
 
   -- What a call answers that is refused by the number m: no word changes.
   abbrev kept : ℕ → Called
   kept m = record { tables = lent e l; answer = refusing m }
 
-  unsound : (m : ℕ) → table-refusal e l ≡ suc m → call-tables (lent e l) call ≡ kept (suc m)
+  -- On sound tables the step turns it away, and what they read as is written as it was.
+  turned-sound : table-refusal e l ≡ 0 → early ≢ 0 → call-tables (lent e l) asked ≡ kept early
+  unfolding call-tables step read-state
+  turned-sound sound some =
+      rw (sound, ne-eqb early 0 some) (ap (λ (w : Tables). record { tables = w; answer = refusing early }) (rewritten (lent e l) (a .fits) sound))
+
+  turned-unsound : eqb (table-refusal e l) 0 ≡ false → call-tables (lent e l) asked ≡ kept (table-refusal e l)
   unfolding call-tables
-  unsound m q = rw (q, ne-eqb (suc m) 0 (omega arith))
+  turned-unsound unsound = rw unsound
 
-  -- The tests of a call's refusals, in their order.
-  abbrev first-four : ℕ → Bool → ℕ
-  first-four tables docket = cond (eqb tables 0) (cond docket 4 0) tables
-
-  abbrev first-five : ℕ → Bool → Bool → ℕ
-  first-five tables docket clock = cond (eqb (first-four tables docket) 0) (cond clock 5 0) (first-four tables docket)
-
-  -- The first of them that is met is what the call answers.
-  first-met : call-refusal e l t lo hi ≢ 0 → call-tables (lent e l) call ≡ kept (call-refusal e l t lo hi)
-  first-met = go (table-refusal e l) (bad-dockets lo hi) (bad-clock t (clock-of e)) refl refl refl
+  -- Else it is what the call answers.
+  pub turned-away : n ≢ 0 → call-tables (lent e l) asked ≡ kept n
+  turned-away some = rw (a .number) (go (eqb (table-refusal e l) 0) refl (λ z. some (a .number ∙ z)))
     where
-      go : (m : ℕ) (d b : Bool) → table-refusal e l ≡ m → bad-dockets lo hi ≡ d → bad-clock t (clock-of e) ≡ b
-          → first-five m d b ≢ 0 → call-tables (lent e l) call ≡ kept (first-five m d b)
-      go zero true b p q r h = kept-words e l (a .fits) p call 4 (steps-4 (read-state e l) (a .dockets ∙ q))
-      go zero false true p q r h = kept-words e l (a .fits) p call 5 (steps-5 (read-state e l) (a .dockets ∙ q) (ap (bad-clock t) read-clock ∙ r))
-      go zero false false p q r h = absurd (h refl)
-      go (suc m) d b p q r h =
-          let some : eqb (suc m) 0 ≡ false = ne-eqb (suc m) 0 (omega arith) in
-          rw (some, some) (unsound m p)
-
-  pub turned-away : n ≢ 0 → call-tables (lent e l) call ≡ kept n
-  turned-away some = rw (a .number) (first-met (λ z. some (a .number ∙ z)))
+      go : (sound : Bool) → eqb (table-refusal e l) 0 ≡ sound → cond sound early (table-refusal e l) ≢ 0
+          → call-tables (lent e l) asked ≡ kept (cond sound early (table-refusal e l))
+      go true q h = turned-sound (eqb-true (table-refusal e l) 0 q) h
+      go false q h = turned-unsound q

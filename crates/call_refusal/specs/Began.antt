@@ -4,17 +4,16 @@ use mathlib.Core.Bool.{false, cond}
 use mathlib.Core.List.{List}
 use Prim.Native.Nat.{ℕ}
 use lib.Dec.{eqb}
-use Rattle.model.specs.Calls.{Op, bad-docket, bad-clock}
+use Rattle.model.specs.Calls.{Op, Call, bad-docket, bad-clock, bad-date, early-refusal}
 use Rattle.tables.specs.Slots.{slots-of, clock-of}
 use Rattle.tables.specs.Words.{Fits32}
 use Rattle.tables.specs.Sound.{table-refusal}
 use Rattle.tables.specs.Placed.{read-state}
-use Rattle.check_refusal.specs.Dockets.{docket-refusal}
 use Rattle.merge_levels.specs.Laid.{Store}
 
--- "The order is the table's": 1 to 4, then 5; 0 for none of them.
-abbrev pub call-refusal : List ℕ → List ℕ → ℕ → ℕ → ℕ → ℕ
-call-refusal e l t lo hi = cond (eqb (docket-refusal e l lo hi) 0) (cond (bad-clock t (clock-of e)) 5 0) (docket-refusal e l lo hi)
+-- "The order is the table's": 1 to 3 of the tables, then the docket, the clock and the date; 0 for none of them.
+abbrev pub call-refusal : List ℕ → List ℕ → Call ℕ → ℕ
+call-refusal e l c = cond (eqb (table-refusal e l) 0) (early-refusal (clock-of e) c) (table-refusal e l)
 
 -- A call that meets none of them.
 pub record Began (e l : List ℕ) (t : ℕ) (op : Op ℕ) : Type 0 where
@@ -22,6 +21,7 @@ pub record Began (e l : List ℕ) (t : ℕ) (op : Op ℕ) : Type 0 where
   pub fits : Fits32 e
   pub dockets : bad-docket op ≡ false
   pub time : bad-clock t (clock-of e) ≡ false
+  pub dated : bad-date t op ≡ false
 
 -- The store in the tables, at the time of the call.
 abbrev pub store : List ℕ → List ℕ → ℕ → Store

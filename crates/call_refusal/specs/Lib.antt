@@ -1,2 +1,2 @@
--- Refusals 1 to 5 of a timed call, and a call that meets none of them.
+-- What turns a timed call away at once, and a call that nothing does.
 pub mod Began

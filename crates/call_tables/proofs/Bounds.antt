@@ -36,14 +36,14 @@ module _ (w : Tables) (c : Call ℕ) where
   abbrev p : State ℕ ℕ
   p = read-state (w .entries) (w .levels)
 
-  -- Refusals are 1 to 7.
-  pub refusal-most : call-tables w c .answer .refusal ≤ 7
+  -- Refusals are 1 to 10.
+  pub refusal-most : call-tables w c .answer .refusal ≤ 10
   refusal-most =
       let t : ℕ = table-refusal (w .entries) (w .levels) in
       let low = tables-refuse-low (w .entries) (w .levels) in
       omega (arith, refused-exactly w c, go (eqb t 0) (eqb (early-refusal (p .clock) c) 0) (out-of-slots (c .clock) (c .op) p) t low)
     where
-      go : (a b o : Bool) (t : ℕ) → t ≤ 3 → cond a (cond b (cond o 7 0) (early-refusal (p .clock) c)) t ≤ 7
+      go : (a b o : Bool) (t : ℕ) → t ≤ 3 → cond a (cond b (cond o 7 0) (early-refusal (p .clock) c)) t ≤ 10
       go true true true t h = omega arith
       go true true false t h = omega arith
       go true false o t h = omega (arith, early-most (p .clock) c)

@@ -109,9 +109,9 @@ module _ (w : Tables) where
   unfolding no-slot
   delete-never-full t k = never-full w (record { clock = t; op = written (delete k) }) refl
 
-  pub delete-range-never-full : (t lo hi : ℕ) → call-tables w (record { clock = t; op = written (delete-range lo hi) }) .answer .refusal ≢ 7
+  pub delete-range-never-full : (t lo hi date : ℕ) → call-tables w (record { clock = t; op = written (delete-range lo hi date) }) .answer .refusal ≢ 7
   unfolding no-slot
-  delete-range-never-full t lo hi = never-full w (record { clock = t; op = written (delete-range lo hi) }) refl
+  delete-range-never-full t lo hi date = never-full w (record { clock = t; op = written (delete-range lo hi date) }) refl
 
   -- A call on sound tables, accepted or refused, leaves sound tables.
   pub stays-sound : Fits32 (w .entries) → (c : Call ℕ) → table-refusal (w .entries) (w .levels) ≡ 0

@@ -58,7 +58,7 @@ unfoldable pub answers-tables : Tables → List (Call ℕ) → List Answer
 answers-tables w [] = []
 answers-tables w (c ∷ cs) = call-tables w c .answer ∷ answers-tables (call-tables w c .tables) cs
 
--- The refusal's number, "by where they are found": the tables first, then the docket, the clock, the free chain.
+-- The refusal's number, "by where they are found": the tables first, then the docket, the clock, the date, the free chain.
 abbrev pub refusal-number : Tables → Call ℕ → ℕ
 refusal-number w c =
     cond (eqb (table-refusal (w .entries) (w .levels)) 0)

@@ -1,4 +1,4 @@
-// The five timed calls, each one operation of `call`.
+// The timed calls, each one operation of `call`.
 use call_any::call;
 use call_end::Answer;
 use call_op::Op;
@@ -22,11 +22,25 @@ pub fn delete(entries: &mut [u32], levels: &mut [u32], clock: u32, docket: u32) 
     call(entries, levels, clock, Op::Delete(docket))
 }
 
-// Deletes the dockets from lo to hi.
+// Deletes the dockets from lo to hi, whenever put: the date is the clock.
 pub fn delete_range(entries: &mut [u32], levels: &mut [u32], clock: u32, lo: u32, hi: u32) -> Answer
-    ensures { λ r. ⌜ called (now (entries .exit)) (now (levels .exit)) r ≡ call-tables (lent (now (entries .entry)) (now (levels .entry))) (record { clock = clock; op = written (delete-range lo hi) }) ⌝ }
+    ensures { λ r. ⌜ called (now (entries .exit)) (now (levels .exit)) r ≡ call-tables (lent (now (entries .entry)) (now (levels .entry))) (record { clock = clock; op = written (delete-range lo hi clock) }) ⌝ }
 {
-    call(entries, levels, clock, Op::DeleteRange(lo, hi))
+    call(entries, levels, clock, Op::DeleteRange(lo, hi, clock))
+}
+
+// Deletes the dockets from lo to hi that were put up to a date.
+pub fn delete_range_dated(
+    entries: &mut [u32],
+    levels: &mut [u32],
+    clock: u32,
+    lo: u32,
+    hi: u32,
+    date: u32,
+) -> Answer
+    ensures { λ r. ⌜ called (now (entries .exit)) (now (levels .exit)) r ≡ call-tables (lent (now (entries .entry)) (now (levels .entry))) (record { clock = clock; op = written (delete-range lo hi date) }) ⌝ }
+{
+    call(entries, levels, clock, Op::DeleteRange(lo, hi, date))
 }
 
 // Merges the buffer, full or not, and does the pass.

@@ -36,10 +36,10 @@ pub struct Latest {
 pub fn covers(lo: u32, hi: u32, date: u32, docket: u32, stamp: u32) -> bool
     ensures { λ r. ⌜ r ≡ covers lo hi date docket stamp ⌝ }
 {
-    if docket < lo {
-        return false;
+    if lo <= docket {
+        return docket <= hi && stamp <= date;
     }
-    docket <= hi && stamp <= date
+    false
 }
 
 // The front of a whole chain.

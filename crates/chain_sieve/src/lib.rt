@@ -9,8 +9,6 @@ use table_slots::lo_of;
 use table_slots::next_of;
 use table_slots::stamp_of;
 ghost use mathlib.Core.Path.{_≡_};
-ghost use Prim.Native.Nat.{_+_, _*_, _<_};
-ghost use lib.ListN.{length};
 ghost use Rattle.lists.specs.All.{Exists};
 ghost use Rattle.lists.specs.Lists.{select};
 ghost use Rattle.tables.specs.Slots.{InTable};

@@ -7,27 +7,13 @@ use Rattle.call_any.proofs.Ends.{away}
 use Rattle.call_any.proofs.call.Statement.{statement}
 use Rattle.call_any.proofs.call.Tie as tie
 
--- Where the code stands: at its entry, and once the dockets are named.
-abbrev entry : tie.After-dockets → tie.Start
-entry c = c .before .before .before
+-- The entry, before the call was asked about.
+abbrev entry : tie.After-refusal-of → tie.Start
+entry c = c .before .before .before .before .before
 
-abbrev named : tie.After-refusal-of → tie.After-dockets
-named c = c .before .before .before
-
-asked : (c : tie.After-refusal-of) → let a = entry (named c) .args in
+asked : (c : tie.After-refusal-of) → let a = entry c .args in
     Asked (a .entries .now) (a .levels .now) (a .clock) (op-of (a .op)) (c .refusal-of .result)
-asked c =
-    let at = named c in
-    record {
-      lo = at .dockets .result .lo;
-      hi = at .dockets .result .hi;
-      fits = λ i. omega (arith, at .before .before .slice-known .given i);
-      dockets = at .dockets .ensures;
-      number = c .refusal-of .ensures;
-    }
-
-dockets-requires : tie.Need-dockets-requires
-dockets-requires c κs = search needs
+asked c = record { fits = λ i. omega (arith, c .before .before .before .before .slice-known .given i); number = c .refusal-of .ensures }
 
 refusal-of-requires : tie.Need-refusal-of-requires
 refusal-of-requires c κs = search needs
@@ -60,7 +46,6 @@ pub call-spec : {M : Type 1} → statement M
 call-spec =
     tie.close
     (tie.spec
-    dockets-requires
     refusal-of-requires
     refused-requires
     same-length

@@ -72,7 +72,7 @@ returns-2 : tie.Need-returns-2
 returns-2 c = λ v k.
     let done = c .before .before .before .before in
     let free = room (done .before .before .before) v k in
-    entered k free (done .enter .ensures _ v (begun-laid (k .began)) refl (k .write-is) (k .began .dockets) (enters-room _ v _ free))
+    entered k free (done .enter .ensures _ v (begun-laid (k .began)) refl (k .write-is) (k .began .dockets) (k .began .dated) (enters-room _ v _ free))
 
 pub write-spec : {M : Type 1} → statement M
 write-spec =

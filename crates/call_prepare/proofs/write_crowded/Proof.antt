@@ -65,7 +65,7 @@ returns c = λ v k.
     let done = c .before .before .before .before in
     let then = done .before .before .before in
     let d = worked (merged (then .before .before)) v k in
-    entered-after k d (some then) (done .enter .ensures _ v (d .laid) refl (k .writes .write-is) (k .writes .began .dockets) (after-room k d (some then)))
+    entered-after k d (some then) (done .enter .ensures _ v (d .laid) refl (k .writes .write-is) (k .writes .began .dockets) (k .writes .began .dated) (after-room k d (some then)))
 
 act-requires : tie.Need-act-requires
 act-requires c κs =
