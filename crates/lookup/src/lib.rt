@@ -43,28 +43,32 @@ pub fn lookup(entries: &[u32], levels: &[u32], docket: u32) -> Answer
     }
 }
 
-// One level, by its row.
-fn look_level(e: &[u32], l: &[u32], level: usize, docket: u32) -> Decided
+// One level, by its row, with the latest date met above it.
+fn look_level(e: &[u32], l: &[u32], level: usize, docket: u32, date: u32) -> Decided
     requires { ⌜ Readable (now e) (now l) × (level ≤ settings-of (now l) .deepest) ⌝ }
-    ensures { λ r. ⌜ r ≡ level-decides (read-level (now (e .entry)) (now (l .entry)) level) docket ⌝ }
+    ensures { λ r. ⌜ r ≡ level-decides date (read-level (now (e .entry)) (now (l .entry)) level) docket ⌝ }
 {
     let row = level_at(l, level);
-    look_chains(e, row.points, row.ranges, docket)
+    look_chains(e, row.points, row.ranges, docket, date)
 }
 
-// Reads the levels from 0, and stops at the first that decides.
+// Reads the levels from 0, carries the latest date met so far, and stops at the first level that decides.
 fn look_up(e: &[u32], l: &[u32], docket: u32) -> Found
     requires { ⌜ Readable (now e) (now l) ⌝ }
     ensures { λ r. ⌜ found-of r ≡ lookup (read-state (now (e .entry)) (now (l .entry)) .levels) docket ⌝ }
 {
     let levels = deepest_of(l) + 1;
     let mut left = levels;
+    let mut date = 0;
     while left != 0 {
         let level = levels - left;
-        match look_level(e, l, level, docket) {
+        match look_level(e, l, level, docket, date) {
             Decided::Value(tally, stamp) => return Found::Value(tally, stamp),
             Decided::Absent => return Found::Absent,
-            Decided::Deeper => left -= 1,
+            Decided::Deeper(met) => {
+                date = met;
+                left -= 1;
+            }
         }
     }
     Found::Absent

@@ -1,74 +1,67 @@
--- Laws of the answers: what chains, levels and all levels decide.
-use mathlib.Core.Path.{_≡_, refl, sym, ap, _∙_}
+-- Laws of the answers: what chains and levels decide.
+use mathlib.Core.Path.{_≡_, refl, sym, _∙_}
 use mathlib.Core.Bool.{Bool, true, false, cond}
 use mathlib.Core.List.{List, [], _∷_, map}
-use Prim.Native.Nat.{ℕ, _<_}
+use Prim.Native.Nat.{ℕ, _<_, max}
 use native.Mathlib.Omega.{arith}
 use borrow.Author.Tests.{ne-eqb}
-use lib.Dec.{eqb}
+use lib.Dec.{leb, eqb}
 use Rattle.lists.specs.All.{All}
 use Rattle.model.specs.Records.{Entry, value, tombstone, Point, Level}
-use Rattle.model.specs.Merge.{covered}
 use Rattle.model.specs.Lookup as model
+use Rattle.model.specs.Lookup.{latest}
 use Rattle.tables.specs.Slots.{lo-of}
 use Rattle.tables.specs.Placed.{read-point}
 use Rattle.lookup_level.specs.declared.Decided.{Decided}
 use Rattle.lookup_level.specs.declared.Decided.the-variants.{Value, Absent, Deeper}
-use Rattle.lookup_level.specs.Answers.{tells, decides, or-else, level-decides, levels-decide, settle}
+use Rattle.lookup_level.specs.Answers.{says, tells, decides, meets, level-decides, settle}
 
--- Records past the docket decide nothing.
-pub decides-past : (e : List ℕ) (k : ℕ) (ss : List ℕ) → All (λ s. k < lo-of e s) ss → decides (map (read-point e) ss) k ≡ Deeper
-unfolding decides
-decides-past e k [] a = refl
-decides-past e k (s ∷ ss) a = rw (ne-eqb (lo-of e s) k (omega arith)) (decides-past e k ss (a .1))
+module _ (date : ℕ) where
+  -- Records past the docket decide nothing.
+  pub decides-past : (e : List ℕ) (k : ℕ) (ss : List ℕ) → All (λ s. k < lo-of e s) ss → decides date (map (read-point e) ss) k ≡ Deeper date
+  unfolding decides
+  decides-past e k [] a = refl
+  decides-past e k (s ∷ ss) a = rw (ne-eqb (lo-of e s) k (omega arith)) (decides-past e k ss (a .1))
 
--- What is decided is what the model finds, with the deeper levels behind it.
-pub find-decides : (ps : List (Point ℕ ℕ)) (k : ℕ) (deeper : model.Found ℕ) → model.find ps k deeper ≡ settle (decides ps k) deeper
-unfolding model.find decides
-find-decides [] k deeper = refl
-find-decides (p ∷ ps) k deeper = go (eqb (p .key) k) (p .entry) (find-decides ps k deeper)
-  where
-    go : (b : Bool) (x : Entry ℕ) → model.find ps k deeper ≡ settle (decides ps k) deeper
-        → cond b (model.reads x (p .stamp)) (model.find ps k deeper) ≡ settle (cond b (tells x (p .stamp)) (decides ps k)) deeper
-    go true (value a) h = refl
-    go true tombstone h = refl
-    go false x h = h
+  -- What a point decides is what the model finds by it.
+  pub settle-tells : (met : ℕ) (x : Entry ℕ) (t : ℕ) (deeper : ℕ → model.Found ℕ) → settle (meets met (tells date x t)) deeper ≡ model.judged date x t
+  settle-tells met x t deeper = go (leb t date) x
+    where
+      go : (b : Bool) (x : Entry ℕ) → settle (meets met (cond b Absent (says x t))) deeper ≡ cond b model.absent (model.reads x t)
+      go true x = refl
+      go false (value a) = refl
+      go false tombstone = refl
 
-settle-or-else : (c : Decided) (b : Bool) (deeper : model.Found ℕ)
-    → settle (or-else c (cond b Absent Deeper)) deeper ≡ settle c (cond b model.absent deeper)
-settle-or-else (Value a t) b deeper = refl
-settle-or-else Absent b deeper = refl
-settle-or-else Deeper true deeper = refl
-settle-or-else Deeper false deeper = refl
+  -- What is decided is what the model finds, with the deeper levels behind it.
+  pub find-decides : (met : ℕ) (ps : List (Point ℕ ℕ)) (k : ℕ) (deeper : ℕ → model.Found ℕ)
+      → model.find date ps k (deeper (max date met)) ≡ settle (meets met (decides date ps k)) deeper
+  unfolding model.find decides
+  find-decides met [] k deeper = refl
+  find-decides met (p ∷ ps) k deeper = go (eqb (p .key) k) (find-decides met ps k deeper)
+    where
+      go : (b : Bool) → model.find date ps k (deeper (max date met)) ≡ settle (meets met (decides date ps k)) deeper
+          → cond b (model.judged date (p .entry) (p .stamp)) (model.find date ps k (deeper (max date met)))
+          ≡ settle (meets met (cond b (tells date (p .entry) (p .stamp)) (decides date ps k))) deeper
+      go true h = sym (settle-tells met (p .entry) (p .stamp) deeper)
+      go false h = h
 
-pub lookup-decides : (l : Level ℕ ℕ) (ls : List (Level ℕ ℕ)) (k : ℕ)
-    → model.lookup (l ∷ ls) k ≡ settle (level-decides l k) (model.lookup ls k)
-unfolding model.lookup level-decides
-lookup-decides l ls k =
-    find-decides (l .points) k (cond (covered (l .ranges) k) model.absent (model.lookup ls k))
-    ∙ sym (settle-or-else (decides (l .points) k) (covered (l .ranges) k) (model.lookup ls k))
+-- Deeper levels that give the same for every date.
+pub settle-same : (d : Decided) (f g : ℕ → model.Found ℕ) → ((met : ℕ) → f met ≡ g met) → settle d f ≡ settle d g
+settle-same (Value a t) f g same = refl
+settle-same Absent f g same = refl
+settle-same (Deeper met) f g same = same met
 
-settle-next : (c d : Decided) (deeper : model.Found ℕ) → settle (or-else c d) deeper ≡ settle c (settle d deeper)
-settle-next (Value a t) d deeper = refl
-settle-next Absent d deeper = refl
-settle-next Deeper d deeper = refl
+pub lookup-decides : (date : ℕ) (l : Level ℕ ℕ) (ls : List (Level ℕ ℕ)) (k : ℕ)
+    → model.lookup-from date (l ∷ ls) k ≡ settle (level-decides date l k) (λ met. model.lookup-from met ls k)
+unfolding model.lookup-from level-decides
+lookup-decides date l ls k = find-decides date (latest (l .ranges) k) (l .points) k (λ met. model.lookup-from met ls k)
 
--- What levels decide is what the model finds in them.
-pub levels-settle : (ls : List (Level ℕ ℕ)) (k : ℕ) → settle (levels-decide ls k) model.absent ≡ model.lookup ls k
-unfolding levels-decide model.lookup
-levels-settle [] k = refl
-levels-settle (l ∷ ls) k =
-    settle-next (level-decides l k) (levels-decide ls k) model.absent ∙ ap (settle (level-decides l k)) (levels-settle ls k) ∙ sym (lookup-decides l ls k)
-
-module _ (l : Level ℕ ℕ) (k : ℕ) (d : Decided) (says : d ≡ decides (l .points) k) where
-  pub level-by-point : or-else d (cond (covered (l .ranges) k) Absent Deeper) ≡ d → d ≡ level-decides l k
+module _ (l : Level ℕ ℕ) (k date : ℕ) (d : Decided) (is : d ≡ decides date (l .points) k) where
+  -- A point of the docket has decided.
+  pub level-by-point : meets (latest (l .ranges) k) d ≡ d → d ≡ level-decides date l k
   unfolding level-decides
-  level-by-point h = sym h ∙ rw says
+  level-by-point h = sym h ∙ rw is
 
-  pub level-by-range : d ≡ Deeper → covered (l .ranges) k ≡ true → Absent ≡ level-decides l k
+  pub level-deeper : (met r : ℕ) → d ≡ Deeper met → r ≡ max met (latest (l .ranges) k) → Deeper r ≡ level-decides date l k
   unfolding level-decides
-  level-by-range q h = rw (← says, q, h)
-
-  pub level-deeper : d ≡ Deeper → covered (l .ranges) k ≡ false → d ≡ level-decides l k
-  unfolding level-decides
-  level-deeper q h = rw (← says, q, h)
+  level-deeper met r q h = rw (← is, q, h)

@@ -1,3 +1,4 @@
 -- Laws of ranges still to come.
+pub mod Dates
+pub mod Levels
 pub mod Surveys
-pub mod Covers

@@ -1,79 +1,163 @@
--- Each level of a survey, and its end; its chains stay ordered.
-use mathlib.Core.Path.{_≡_, _∙_}
+-- What a survey says: from the docket on the ranges say the same, and before the fence no level has a later date than the cover's.
+use mathlib.Core.Path.{_≡_, refl, sym, ap, _∙_}
 use mathlib.Core.Logic.{_≢_}
-use mathlib.Core.Bool.{true, false}
+use mathlib.Core.Bool.{Bool, true, false, cond}
 use mathlib.Core.List.{List}
-use Prim.Native.Nat.{ℕ, suc, _+_, _-_, _<_, _≤_, min}
+use Prim.Native.Nat.{ℕ, zero, suc, _+_, _*_, _<_, _≤_, min}
+use native.Mathlib.Nat.{zero-add}
+use native.Mathlib.Numerals.{add-one}
 use native.Mathlib.Omega.{arith}
-use native.Mathlib.Decide.{ℕ-discrete, decLt}
-use lib.ListN.{getD, set, length-set}
-use lib.Seq.{getD-set-same, getD-set-other}
-use Rattle.lists.proofs.Bools.{both-false}
-use Rattle.model.proofs.Coverage.{covers-inside, covers-bounds}
-use Rattle.tables.specs.Slots.{lo-of, hi-of}
+use native.Mathlib.Decide.{ℕ-discrete}
+use borrow.Author.Tests.{ltb-true, ltb-false}
+use lib.Dec.{ltb}
+use lib.ListN.{length}
+use Rattle.lists.specs.Lists.{iterate}
+use Rattle.lists.proofs.Loops.{iterate-holds}
+use Rattle.lists.proofs.Bools.{cond-elim}
 use Rattle.tables.specs.Words.{Fits32}
-use Rattle.chain_cover.specs.Walks.{Ordered}
-use Rattle.chain_cover.specs.Skips.{Ahead}
-use Rattle.chain_cover.proofs.Chains.{On, go-on}
-use Rattle.chain_cover.proofs.Walks.{ranges-end, ranges-first}
-use Rattle.chain_cover.proofs.Skips.{front-ahead}
-use Rattle.scan_heads.specs.Heads.{key-from}
-use Rattle.scan_heads.proofs.Packs.{key-none, key-on}
-use Rattle.scan_fences.specs.Fences.{Ready, chain-covers, range-front, surveyed}
+use Rattle.chain_cover.specs.declared.Front.{Front}
+use Rattle.chain_cover.specs.declared.Latest.{Latest}
+use Rattle.chain_cover.specs.Fronts.{front-slots, advanced, FrontOrdered}
+use Rattle.chain_cover.specs.Dates as walk
+use Rattle.chain_cover.proofs.Fronts.{front-ascends, advanced-ordered, advanced-latest}
+use Rattle.scan_fences.specs.declared.Seen.{Seen}
+use Rattle.scan_fences.specs.Fences.{front-in, put-front, ranges-in, Ready, slots-latest, levels-latest, Covering, unseen, sees, Survey, survey-level, View, surveyed}
+use Rattle.scan_fences.proofs.Dates.{Dated, dated}
+use Rattle.scan_fences.proofs.Levels.{put-length, put-same, put-other, put-ready, latest-none-later, latest-includes, latest-same}
 
-module _ (e : List ℕ) (k n i : ℕ) (ranges : List ℕ) (fence : ℕ) where
-  pub survey-end : n ≤ i → surveyed e k (n - i) i ranges fence ≡ record { ranges = ranges; cover = record { level = i; fence = fence } }
-  unfolding surveyed
-  survey-end le =
-      let none : n - i ≡ 0 = omega arith in
-      rw none
+-- What a turn makes of the ranges, and of what was seen.
+pub level-surveyed : (e : List ℕ) (k i : ℕ) (v : Survey) (f : Front) → f ≡ advanced e k (front-in (v .ranges) i)
+    → (l : Latest) → l ≡ walk.surveyed e k (front-slots e f) walk.no-date → (s : Seen) → s ≡ sees (v .seen) (i + 1) l
+    → record { ranges = put-front (v .ranges) i f; seen = s } ≡ survey-level e k i v
+unfolding survey-level
+level-surveyed e k i v f passed l asked s seen = rw (seen, asked, passed)
 
-  module _ (lt : i < n) (s : ℕ) (is : s ≡ range-front e k (getD ranges i 0)) where
-    pub survey-here : chain-covers e s k ≡ true → surveyed e k (n - i) i ranges fence ≡ record { ranges = set ranges i s; cover = record { level = i; fence = min fence (hi-of e s + 1) } }
-    unfolding surveyed
-    survey-here here =
-        let some : n - i ≡ suc (n - suc i) = omega arith in
-        rw (some, ← is, here)
+-- What was seen of the first i levels of those whose ranges r tells, for docket k: up to where a range begins none of them has a later date,
+-- and up to the last docket of its range as many levels as it takes have the date.
+pub record Sees (e : List ℕ) (r : ℕ → List ℕ) (k i : ℕ) (s : Seen) : Type 0 where
+  pub upto : (m j : ℕ) → m < i → k ≤ j → j < s .next → slots-latest e (r m) j ≤ s .date
+  pub from : (n j : ℕ) → s .depth ≤ n → k ≤ j → j ≤ s .last → s .date ≤ levels-latest e r j n 0
+  pub inside : s .depth ≤ i
+  pub ahead : k < s .next
+  pub reach : k ≤ s .last
+  pub low : s .last ≤ 65535
 
-    pub survey-next : (j : ℕ) → j ≡ suc i → chain-covers e s k ≡ false → surveyed e k (n - i) i ranges fence ≡ surveyed e k (n - j) j (set ranges i s) (min fence (key-from e s))
-    unfolding surveyed
-    survey-next j next none =
-        let some : n - i ≡ suc (n - suc i) = omega arith in
-        rw (some, next, ← is, none)
+module _ (e : List ℕ) (r : ℕ → List ℕ) (k : ℕ) where
+  sees-none : k ≤ 65535 → Sees e r k 0 unseen
+  sees-none last = record {
+    upto = λ m j h kj before. absurd (omega arith);
+    from = λ n j enough kj h. omega arith;
+    inside = omega arith;
+    ahead = omega arith;
+    reach = last;
+    low = omega arith;
+  }
 
--- Where the ranges that end before a docket are passed: that the first covers it, or that the first begins past it.
-module _ (e : List ℕ) (words : Fits32 e) (k s : ℕ) (ahead : Ahead e (hi-of e) s k) where
-  pub covering-some : chain-covers e s k ≡ true → s ≢ 0
-  covering-some here z = both-false here (ranges-end e s k z)
+  -- One level more, whose ranges say for docket k what l says.
+  module _ (i : ℕ) (s : Seen) (h : Sees e r k i s) (ss : List ℕ) (same : (j : ℕ) → k ≤ j → slots-latest e ss j ≡ slots-latest e (r i) j) (l : Latest) (d : Dated e ss k l) where
+    abbrev next : ℕ
+    next = min (s .next) (l .next)
 
-  pub covering-lo : chain-covers e s k ≡ true → lo-of e s ≤ k
-  covering-lo here =
-      let some = covering-some here in
-      covers-bounds (lo-of e s) (hi-of e s) k (ranges-first e s k (go-on e s (ahead .ordered) some) words (ahead .first some) ∙ here) .0
+    up : (date : ℕ) → s .date ≤ date → l .date ≤ date → (m j : ℕ) → m < i + 1 → k ≤ j → j < next → slots-latest e (r m) j ≤ date
+    up date a b m j lt kj before = go (ℕ-discrete m i)
+      where
+        go : Dec (m ≡ i) → slots-latest e (r m) j ≤ date
+        go (yes q) = rw (q, ← same j kj) (omega (arith, d .upto j kj (omega arith)))
+        go (no q) = omega (arith, h .upto m j (omega arith) kj (omega arith))
 
-  pub uncovered-key : k ≤ 65535 → chain-covers e s k ≡ false → k < key-from e s
-  uncovered-key last none = go (ℕ-discrete s 0)
+    sees-later : s .date < l .date → Sees e r k (i + 1) (record { date = l .date; depth = i + 1; last = l .last; next = next })
+    sees-later lt = record {
+      upto = up (l .date) (omega arith) (omega arith);
+      from = λ n j enough kj le. omega (arith, d .from j kj le, same j kj, latest-includes e r j n 0 i (omega arith) (omega arith));
+      inside = omega arith;
+      ahead = omega (arith, h .ahead, d .ahead);
+      reach = d .reach (λ z. omega arith);
+      low = d .low;
+    }
+
+    sees-no-later : l .date ≤ s .date → Sees e r k (i + 1) (record { date = s .date; depth = s .depth; last = s .last; next = next })
+    sees-no-later le = record {
+      upto = up (s .date) (omega arith) le;
+      from = h .from;
+      inside = omega (arith, h .inside);
+      ahead = omega (arith, h .ahead, d .ahead);
+      reach = h .reach;
+      low = h .low;
+    }
+
+    sees-next : Sees e r k (i + 1) (sees s (i + 1) l)
+    sees-next =
+        cond-elim (Sees e r k (i + 1)) (ltb (s .date) (l .date)) _ _ (λ t. sees-later (ltb-true (s .date) (l .date) t))
+        (λ t. sees-no-later (ltb-false (s .date) (l .date) t))
+
+-- The latest date of m of n levels over a docket from k on, up to where what was seen holds.
+module _ {e : List ℕ} {r : ℕ → List ℕ} {k n : ℕ} {s : Seen} (h : Sees e r k n s) (j m : ℕ) (kj : k ≤ j) (before : j < s .next) (some : m ≤ n) where
+  seen-upto : levels-latest e r j m 0 ≤ s .date
+  seen-upto = latest-none-later e r j (s .date) m 0 (λ i a b. h .upto i j (omega arith) kj before)
+
+  seen-is : j ≤ s .last → s .depth ≤ m → levels-latest e r j m 0 ≡ s .date
+  seen-is upto enough = omega (arith, seen-upto, h .from m j enough kj upto)
+
+-- A survey for docket k of n levels, after the first i: from the docket on all ranges say what they said at the start.
+pub record Surveying (e start : List ℕ) (k n i : ℕ) (v : Survey) : Type 0 where
+  pub ready : Ready e (v .ranges) n
+  pub same-length : length (v .ranges) ≡ length start
+  pub says : (m j : ℕ) → m < n → k ≤ j → slots-latest e (ranges-in e (v .ranges) m) j ≡ slots-latest e (ranges-in e start m) j
+  pub seen : Sees e (ranges-in e start) k i (v .seen)
+
+module _ (e : List ℕ) (words : Fits32 e) (start : List ℕ) (k n : ℕ) (low : k ≤ 65535) where
+  pub surveying-none : Ready e start n → Surveying e start k n 0 (record { ranges = start; seen = unseen })
+  surveying-none r = record { ready = r; same-length = refl; says = λ m j h kj. refl; seen = sees-none e (ranges-in e start) k low }
+
+  pub surveying-next : (i : ℕ) (v : Survey) → i < n → Surveying e start k n i v → Surveying e start k n (i + 1) (survey-level e k i v)
+  unfolding survey-level
+  surveying-next i v lt h =
+      let f = advanced e k (front-in (v .ranges) i) in
+      let o = advanced-ordered e k (front-in (v .ranges) i) (h .ready .order i lt) in
+      record {
+        ready = put-ready (h .ready) i f lt o;
+        same-length = put-length (v .ranges) i f ∙ h .same-length;
+        says = λ m j below kj. go m j below kj (ℕ-discrete m i);
+        seen = sees-next e (ranges-in e start) k i (v .seen) (h .seen) (front-slots e f) (λ j kj. here j kj) _
+            (dated e words (front-slots e f) (front-ascends e f o) k low);
+      }
     where
-      past : On e s → s ≢ 0 → Dec (k < lo-of e s) → k < lo-of e s
-      past on some (yes lt) = lt
-      past on some (no ge) =
-          both-false (covers-inside (lo-of e s) (hi-of e s) k (omega arith) (ahead .first some)) (ranges-first e s k on words (ahead .first some) ∙ none)
+      here : (j : ℕ) → k ≤ j → slots-latest e (front-slots e (advanced e k (front-in (v .ranges) i))) j ≡ slots-latest e (ranges-in e start i) j
+      here j kj = advanced-latest e k (front-in (v .ranges) i) (h .ready .order i lt) j kj ∙ h .says i j lt kj
 
-      go : Dec (s ≡ 0) → k < key-from e s
-      go (yes z) = omega (arith, key-none e s z)
-      go (no some) = let on = go-on e s (ahead .ordered) some in rw (key-on e s on) (past on some (decLt k (lo-of e s)))
+      go : (m j : ℕ) → m < n → k ≤ j → Dec (m ≡ i)
+          → slots-latest e (ranges-in e (put-front (v .ranges) i (advanced e k (front-in (v .ranges) i))) m) j ≡ slots-latest e (ranges-in e start m) j
+      go m j below kj (yes q) = rw (q, put-same (v .ranges) i (advanced e k (front-in (v .ranges) i)) (omega (arith, h .ready .room))) (here j kj)
+      go m j below kj (no q) = rw (put-other (v .ranges) i (advanced e k (front-in (v .ranges) i)) m q) (h .says m j below kj)
 
--- One of the slots passes the ranges that end before a docket.
-module _ {e ranges : List ℕ} {n : ℕ} (r : Ready e ranges n) (k i s : ℕ) (lt : i < n) (is : s ≡ range-front e k (getD ranges i 0)) where
-  pub passed-ahead : Ahead e (hi-of e) s k
-  passed-ahead = front-ahead e (hi-of e) (getD ranges i 0) k (r .order i lt) s is
+-- What a survey of n levels for docket k leaves and says.
+pub record Viewed (e ranges : List ℕ) (k n : ℕ) (v : View) : Type 0 where
+  pub ready : Ready e (v .ranges) n
+  pub same-length : length (v .ranges) ≡ length ranges
+  pub says : (i j : ℕ) → i < n → k ≤ j → slots-latest e (ranges-in e (v .ranges) i) j ≡ slots-latest e (ranges-in e ranges i) j
+  pub past : k < v .cover .fence
+  pub covers : (j m : ℕ) → k ≤ j → j < v .cover .fence → m ≤ n → Covering e (v .ranges) (v .cover .date) (v .cover .depth) j m
+  pub exact : levels-latest e (ranges-in e ranges) k n 0 ≡ v .cover .date
 
-  pub passed-ordered : Ordered e s
-  passed-ordered = passed-ahead .ordered
-
-  pub passed-ready : Ready e (set ranges i s) n
-  passed-ready = record { room = rw (length-set ranges i s) (r .room); order = λ j h. go j h (ℕ-discrete j i) }
-    where
-      go : (j : ℕ) → j < n → Dec (j ≡ i) → Ordered e (getD (set ranges i s) j 0)
-      go j h (yes q) = rw (q, getD-set-same ranges i s 0 (omega (arith, r .room))) passed-ordered
-      go j h (no q) = rw (getD-set-other ranges i j s 0 q) (r .order j h)
+pub viewed : (e : List ℕ) → Fits32 e → (k n : ℕ) → k ≤ 65535 → (ranges : List ℕ) → Ready e ranges n → Viewed e ranges k n (surveyed e k n ranges)
+unfolding surveyed
+viewed e words k n low ranges r =
+    let v : Survey = iterate (survey-level e k) 0 n (record { ranges = ranges; seen = unseen }) in
+    let h : Surveying e ranges k n n v =
+    rw (zero-add n) at
+    (iterate-holds (survey-level e k) (Surveying e ranges k n) n 0 (record { ranges = ranges; seen = unseen })
+    (λ i u _ lt g. rw (add-one i) at (surveying-next e words ranges k n low i u (omega arith) g)) (surveying-none e words ranges k n low r))
+    in
+    record {
+      ready = h .ready;
+      same-length = h .same-length;
+      says = h .says;
+      past = omega (arith, h .seen .ahead, h .seen .reach);
+      covers = λ j m kj before some.
+          let same = latest-same e (ranges-in e (v .ranges)) (ranges-in e ranges) j m 0 (λ i a b. h .says i j (omega arith) kj) in
+          record {
+            upto = rw same (seen-upto (h .seen) j m kj (omega arith) some);
+            is = λ enough. same ∙ seen-is (h .seen) j m kj (omega arith) some (omega arith) enough;
+          };
+      exact = seen-is (h .seen) k n (omega arith) (h .seen .ahead) (omega arith) (h .seen .reach) (h .seen .inside);
+    }

@@ -1,44 +1,86 @@
-// The ranges that levels still have to come: which level is the shallowest with one over a docket, and up to where that is so.
-use chain_cover::first_covers;
-use chain_cover::skip;
-use scan_heads::key_at;
-use table_slots::hi_of;
+// The ranges that levels still have to come: the latest date of those over a docket, how deep it is found, and up to where that is so.
+use chain_cover::Front;
+use chain_cover::Latest;
+use chain_cover::advance;
+use chain_cover::front_latest;
 ghost use mathlib.Core.Path.{_≡_};
 ghost use Prim.Native.Nat.{_≤_, min};
-ghost use Rattle.scan_fences.specs.Fences.{Ready, surveyed};
+ghost use Rattle.scan_fences.specs.Fences.{Ready, unseen, sees, surveyed};
 
-// Past the last docket.
+// Past the last docket, and that.
 const NO_FENCE: u32 = 65536;
+const LAST_DOCKET: u32 = 65535;
 
-// The shallowest level with a range over the dockets before the fence, from the one asked for on; the number of levels where none has.
+// The latest date of the ranges over the dockets before the fence, from the one asked for on, and how many levels from 0 on it takes to
+// have it. Both are 0 where no range is over them.
 pub struct Cover {
-    pub level: usize,
+    pub date: u32,
+    pub depth: usize,
     pub fence: u32,
 }
 
-// Passes the ranges that end before the docket, in each level down to the first with a range over it.
+// What was seen of some levels: the latest date, how many levels it takes to have it, the last docket of its range, and where a range
+// begins next.
+struct Seen {
+    date: u32,
+    depth: usize,
+    last: u32,
+    next: u32,
+}
+
+// Passes ranges that end before the docket, in each level, and asks it for the docket. The front of level i stands at 2 × i and behind it.
 pub fn survey(e: &[u32], ranges: &mut [usize], levels: usize, docket: u32) -> Cover
     requires { ⌜ Ready (now e) (now ranges) levels ⌝ }
     requires { ⌜ docket ≤ 65535 ⌝ }
-    ensures { λ r. ⌜ record { ranges = now (ranges .exit); cover = r } ≡ surveyed (now (e .entry)) docket levels 0 (now (ranges .entry)) 65536 ⌝ }
+    ensures { λ r. ⌜ record { ranges = now (ranges .exit); cover = r } ≡ surveyed (now (e .entry)) docket levels (now (ranges .entry)) ⌝ }
 {
-    let mut fence = NO_FENCE;
+    let mut seen = Seen {
+        date: 0,
+        depth: 0,
+        last: LAST_DOCKET,
+        next: NO_FENCE,
+    };
     let mut i = 0;
     while i < levels {
-        let s = skip(e, ranges[i], docket);
-        ranges[i] = s;
-        if first_covers(e, s, docket) {
-            return Cover {
-                level: i,
-                fence: lesser(fence, hi_of(e, s) + 1),
-            };
-        }
-        fence = lesser(fence, key_at(e, s));
+        let at = 2 * i;
+        let first = ranges[at];
+        let behind = ranges[at + 1];
+        let before = Front {
+            first: first,
+            behind: behind,
+        };
+        let f = advance(e, before, docket);
+        ranges[at] = f.first;
+        ranges[at + 1] = f.behind;
+        let l = front_latest(e, f, docket);
         i += 1;
+        seen = see(seen, i, l);
     }
     Cover {
-        level: i,
-        fence: fence,
+        date: seen.date,
+        depth: seen.depth,
+        fence: lesser(seen.next, seen.last + 1),
+    }
+}
+
+// One level more, so many with it: a later date than those above takes their place.
+fn see(s: Seen, depth: usize, l: Latest) -> Seen
+    ensures { λ r. ⌜ r ≡ sees s depth l ⌝ }
+{
+    let next = lesser(s.next, l.next);
+    if s.date < l.date {
+        return Seen {
+            date: l.date,
+            depth: depth,
+            last: l.last,
+            next: next,
+        };
+    }
+    Seen {
+        date: s.date,
+        depth: s.depth,
+        last: s.last,
+        next: next,
     }
 }
 

@@ -1,14 +1,14 @@
 -- A step of a sweep: what the least record to come says of its docket, and that passing it leaves what is to come of the others.
 use mathlib.Core.Path.{_≡_, refl, sym, ap, _∙_, subst}
 use mathlib.Core.Logic.{_≢_}
-use mathlib.Core.Bool.{Bool, cond}
+use mathlib.Core.Bool.{cond}
 use mathlib.Core.List.{List}
-use Prim.Native.Nat.{ℕ, suc, _+_, _<_, _≤_}
+use Prim.Native.Nat.{ℕ, suc, _+_, _<_, _≤_, max}
 use native.Mathlib.Omega.{arith}
 use borrow.Author.Tests.{ne-eqb, eqb-true, eqb-false, ltb-true, ltb-false, leb-true, leb-false}
 use lib.Dec.{eqb, ltb, leb}
-use Rattle.lists.proofs.Bools.{by-cases, cond-elim}
-use Rattle.model.specs.Lookup.{absent, reads, add-row, lookup}
+use Rattle.lists.proofs.Bools.{by-cases, cond-elim, cond-same}
+use Rattle.model.specs.Lookup.{Found, absent, judged, add-row, lookup}
 use Rattle.tables.specs.Words.{Fits32}
 use Rattle.tables.specs.Slots.{next-of, kind-of, lo-of, stamp-of}
 use Rattle.tables.specs.Placed.{read-point}
@@ -16,12 +16,12 @@ use Rattle.lookup_level.proofs.Walks.{points-say, points-here, points-next}
 use Rattle.scan_heads.specs.Heads.{passed, point, left}
 use Rattle.scan_heads.proofs.Packs.{key-on}
 use Rattle.scan_heads.proofs.Passing.{points-least, points-later, slot-key, slot-on, level-inside, passed-fits, passed-later, passed-fewer, point-first, point-passed}
-use Rattle.scan_fences.specs.Fences.{levels-cover}
+use Rattle.scan_fences.specs.Fences.{ranges-in}
 use Rattle.scan_step.specs.declared.Sweep.{Sweep}
-use Rattle.scan_step.specs.Sweeps.{range-at, to-come, next-key, next-level, Sweeping, told, moved, gone, neared, rest, listed, Stepped}
-use Rattle.scan_step.proofs.Branches.{gone-before, gone-covered, gone-delete, gone-found, neared-none, neared-fenced, neared-gone}
+use Rattle.scan_step.specs.Sweeps.{to-come, next-key, next-level, date-above, Sweeping, told, moved, gone, neared, rest, listed, Stepped}
+use Rattle.scan_step.proofs.Branches.{gone-before, gone-delete, gone-hidden, gone-found, neared-none, neared-fenced, neared-gone}
 use Rattle.scan_step.proofs.Live.{live-same, live-none, live-pass}
-use Rattle.scan_step.proofs.Coming.{points-before, absent-all, says-at, looks-same, decides-same}
+use Rattle.scan_step.proofs.Coming.{points-before, absent-all, found-at, looks-same, decides-same}
 
 -- The same to come, whether the sweep is on its way or has come to a docket.
 pub told-sweeping : {e : List ℕ} {m : Sweep} {going alive key value stamp : ℕ} → Sweeping e m → Sweeping e (told m going alive key value stamp)
@@ -34,7 +34,7 @@ module _ {e : List ℕ} {m : Sweep} (words : Fits32 e) (s : Sweeping e m) where
   -- Nothing is to come before the first record's docket.
   pub nothing-before : (j : ℕ) → j < k → lookup (to-come e m) j ≡ absent
   nothing-before j lt =
-      absent-all e (point (m .heads)) (m .ranges) j (m .levels) 0
+      absent-all e (point (m .heads)) (ranges-in e (m .ranges)) j (m .levels) 0 0
       (λ i a b.
       let least = points-least (s .points) i (omega arith) in
       points-before e words (point (m .heads) i) j (least .0) (omega (arith, least .1)))
@@ -56,15 +56,19 @@ module _ {e : List ℕ} {m : Sweep} (words : Fits32 e) (s : Sweeping e m) where
     key-here : lo-of e slot ≡ k
     key-here = sym (key-on e slot (slot-on (s .points) low)) ∙ slot-key (s .points)
 
-    -- The docket is absent if a level above has a range over it; else the record tells.
-    says-here : lookup (to-come e m) k ≡ cond (levels-cover e (m .ranges) k (next-level m) 0) absent (reads (read-point e slot .entry) (stamp-of e slot))
+    -- The record is judged by the latest date of the levels above.
+    says-here : lookup (to-come e m) k ≡ judged (date-above e m) (read-point e slot .entry) (stamp-of e slot)
     says-here =
-        says-at e (point (m .heads)) (m .ranges) k (next-level m) (read-point e slot .entry) (stamp-of e slot)
-        (rw (point-first (s .points) low) (points-here e slot k (slot-on (s .points) low) key-here))
-        (next-level m) (m .levels) 0 (omega arith) (level-inside (s .points) low)
+        found-at e (point (m .heads)) (ranges-in e (m .ranges)) k (next-level m) (read-point e slot .entry) (stamp-of e slot)
+        (λ date. rw (point-first (s .points) low) (points-here e slot date k (slot-on (s .points) low) key-here))
+        (next-level m) (m .levels) 0 0 (omega arith) (level-inside (s .points) low)
         (λ i a b.
         let inside = level-inside (s .points) low in
         points-before e words (point (m .heads) i) k (points-least (s .points) i (omega arith) .0) (points-later (s .points) low i (omega arith) b))
+        ∙ ap (λ (date : ℕ). judged date (read-point e slot .entry) (stamp-of e slot)) (zero-max (date-above e m))
+      where
+        zero-max : (n : ℕ) → max 0 n ≡ n
+        zero-max n = omega arith
 
     abbrev after : ℕ → Sweep
     after from = moved m (passed e (m .heads)) from
@@ -72,15 +76,15 @@ module _ {e : List ℕ} {m : Sweep} (words : Fits32 e) (s : Sweeping e m) where
     -- Of another docket the same is to come.
     passed-looks : (j : ℕ) → j ≢ k → lookup (to-come e (after 0)) j ≡ lookup (to-come e m) j
     passed-looks j other =
-        looks-same e (point (m .heads)) (range-at (m .ranges)) (point (passed e (m .heads))) (range-at (m .ranges)) j (m .levels)
-        (λ i lt. decides-same e (point (m .heads) i) (range-at (m .ranges) i) (point (passed e (m .heads)) i) (range-at (m .ranges) i) j (says i) refl)
+        looks-same e (point (m .heads)) (point (passed e (m .heads))) (ranges-in e (m .ranges)) (ranges-in e (m .ranges)) j (m .levels)
+        (λ i lt. decides-same e (point (m .heads) i) (point (passed e (m .heads)) i) (ranges-in e (m .ranges) i) (ranges-in e (m .ranges) i) j (says i) refl)
       where
-        says : (i : ℕ) → points-say e (point (passed e (m .heads)) i) j ≡ points-say e (point (m .heads) i) j
-        says i =
+        says : (i date : ℕ) → points-say e (point (passed e (m .heads)) i) date j ≡ points-say e (point (m .heads) i) date j
+        says i date =
             rw (point-passed (s .points) low i)
-            (cond-elim (λ h. points-say e h j ≡ points-say e (point (m .heads) i) j) (eqb (next-level m) i) (next-of e slot) (point (m .heads) i)
+            (cond-elim (λ h. points-say e h date j ≡ points-say e (point (m .heads) i) date j) (eqb (next-level m) i) (next-of e slot) (point (m .heads) i)
             (λ t. rw (← eqb-true (next-level m) i t, point-first (s .points) low)
-            (sym (points-next e slot j (slot-on (s .points) low) (λ q. other (sym q ∙ key-here)))))
+            (sym (points-next e slot date j (slot-on (s .points) low) (λ q. other (sym q ∙ key-here)))))
             (λ t. refl))
 
     moved-sweeping : (from : ℕ) → Sweeping e (after from)
@@ -114,29 +118,26 @@ module _ {e : List ℕ} {m : Sweep} (words : Fits32 e) (s : Sweeping e m) where
       stepped-on q = record { sweeping = moved-sweeping (k + 1); leads = rest-passed ∙ rw q; fewer = λ _. fewer }
 
     -- However its docket stands, passing the first record is a step.
-    pub gone-stepped : (covered : Bool) → covered ≡ levels-cover e (m .ranges) k (next-level m) 0 → Stepped e m (gone e m covered)
-    gone-stepped covered is = by-cases (ltb k (m .from))
+    pub gone-stepped : Stepped e m (gone e m)
+    gone-stepped = by-cases (ltb k (m .from))
         (λ t.
         let lt = ltb-true k (m .from) t in
-        subst (Stepped e m) (sym (gone-before e m covered lt)) (stepped-before lt))
+        subst (Stepped e m) (sym (gone-before e m lt)) (stepped-before lt))
         (λ t.
         let from = ltb-false k (m .from) t in
-        by-cases covered
-        (λ c. subst (Stepped e m) (sym (gone-covered e m covered from c)) (stepped-on from (says-here ∙ rw (← is, c))))
-        (λ c. by-cases (eqb (kind-of e slot) 1)
-        (λ u. subst (Stepped e m) (sym (gone-found e m covered from c (eqb-true (kind-of e slot) 1 u)))
+        by-cases (eqb (kind-of e slot) 1)
+        (λ u.
+        let put = eqb-true (kind-of e slot) 1 u in
+        by-cases (leb (stamp-of e slot) (date-above e m))
+        (λ c. subst (Stepped e m) (sym (gone-hidden e m from put c)) (stepped-on from (says-here ∙ rw c)))
+        (λ c. subst (Stepped e m) (sym (gone-found e m from put c))
         (record {
           sweeping = told-sweeping (moved-sweeping (k + 1));
-          leads = rest-passed from ∙ rw (says-here, ← is, c, u);
+          leads = rest-passed from ∙ rw (says-here, c, u);
           fewer = λ g. absurd (g refl);
-        }))
-        (λ u. subst (Stepped e m) (sym (gone-delete e m covered from c (eqb-false (kind-of e slot) 1 u))) (stepped-on from (says-here ∙ rw (← is, c, u))))))
-
-    -- Before the fence the cover tells.
-    near-gone : k < m .fence → Stepped e m (gone e m (ltb (m .cover) (next-level m)))
-    near-gone lt =
-        let inside = level-inside (s .points) low in
-        gone-stepped (ltb (m .cover) (next-level m)) (sym (s .covers k (next-level m) (omega arith) lt (omega arith)))
+        })))
+        (λ u. subst (Stepped e m) (sym (gone-delete e m from (eqb-false (kind-of e slot) 1 u)))
+        (stepped-on from (says-here ∙ rw (u, cond-same {X = Found ℕ} (leb (stamp-of e slot) (date-above e m)) absent)))))
 
   -- A step before the fence; at the fence the sweep is still where it was.
   pub near-stepped : k < m .fence → Stepped e m (neared e m)
@@ -146,7 +147,7 @@ module _ {e : List ℕ} {m : Sweep} (words : Fits32 e) (s : Sweeping e m) where
       subst (Stepped e m) (sym (neared-none e m past)) (stepped-none past))
       (λ t.
       let le = ltb-false (m .hi) k t in
-      subst (Stepped e m) (sym (neared-gone e m le lt)) (near-gone le lt))
+      subst (Stepped e m) (sym (neared-gone e m le lt)) (gone-stepped le))
 
   abbrev Leads : Sweep → Type 0
   Leads r = Sweeping e r × (rest e m ≡ listed e r)

@@ -2,31 +2,31 @@
 use mathlib.Core.Path.{_≡_}
 use mathlib.Core.Logic.{_≢_}
 use mathlib.Core.Bool.{Bool, cond, _||_, not}
-use mathlib.Core.List.{List, [], _∷_}
+use mathlib.Core.List.{List, [], _∷_, map}
 use Prim.Native.Nat.{ℕ, zero, suc, _+_, _<_, _≤_}
 use lib.Dec.{eqb, leb, ltb}
-use lib.ListN.{getD}
 use Rattle.model.specs.Lookup.{Row, lookup, live}
 use Rattle.model.specs.Records.{Level}
 use Rattle.tables.specs.Slots.{kind-of, tally-of, stamp-of}
-use Rattle.lookup_level.specs.Answers.{chain-level}
+use Rattle.tables.specs.Sound.{chain-from}
+use Rattle.tables.specs.Placed.{read-point, read-range}
 use Rattle.scan_heads.specs.declared.Heads.{Heads}
 use Rattle.scan_heads.specs.Heads.{key-of, level-of, passed, point, left, Fits}
-use Rattle.scan_fences.specs.Fences.{Ready, levels-cover}
+use Rattle.scan_fences.specs.Fences.{ranges-in, Ready, levels-latest, Covering}
 use Rattle.scan_step.specs.declared.Sweep.{Sweep}
 
--- What n levels from level i on have to come, where p and r tell the first point and the first range of each.
-unfoldable pub levels-from : List ℕ → (ℕ → ℕ) → (ℕ → ℕ) → ℕ → ℕ → List (Level ℕ ℕ)
-levels-from e p r zero i = []
-levels-from e p r (suc n) i = chain-level e (p i) (r i) ∷ levels-from e p r n (suc i)
+-- A level that has the points from slot p on to come, and the ranges at some slots.
+abbrev pub coming-level : List ℕ → ℕ → List ℕ → Level ℕ ℕ
+coming-level e p rs = record { points = map (read-point e) (chain-from e p); ranges = map (read-range e) rs; owed = 0 }
 
--- The first range that level i of a list of slots still has to come.
-abbrev pub range-at : List ℕ → ℕ → ℕ
-range-at ranges i = getD ranges i 0
+-- What n levels from level i on have to come, where p and r tell the first point and the ranges of each.
+unfoldable pub levels-from : List ℕ → (ℕ → ℕ) → (ℕ → List ℕ) → ℕ → ℕ → List (Level ℕ ℕ)
+levels-from e p r zero i = []
+levels-from e p r (suc n) i = coming-level e (p i) (r i) ∷ levels-from e p r n (suc i)
 
 -- What the levels still have to come.
 abbrev pub to-come : List ℕ → Sweep → List (Level ℕ ℕ)
-to-come e m = levels-from e (point (m .heads)) (range-at (m .ranges)) (m .levels) 0
+to-come e m = levels-from e (point (m .heads)) (ranges-in e (m .ranges)) (m .levels) 0
 
 -- The docket of the first record to come, and its level.
 abbrev pub next-key : Sweep → ℕ
@@ -35,12 +35,15 @@ next-key m = key-of (m .heads .first)
 abbrev pub next-level : Sweep → ℕ
 next-level m = level-of (m .heads .first)
 
--- The heads are those of the levels, the chains of ranges can be followed, and before the fence the levels above another have a range over a docket to come exactly
--- where the cover is above it.
+-- The latest date that the levels above the first record's have over its docket.
+abbrev pub date-above : List ℕ → Sweep → ℕ
+date-above e m = levels-latest e (ranges-in e (m .ranges)) (next-key m) (next-level m) 0
+
+-- The heads are those of the levels, the ranges can be followed, and before the fence the date is the latest over a docket to come, from the cover on.
 pub record Sweeping (e : List ℕ) (m : Sweep) : Type 0 where
   pub points : Fits e (m .levels) (m .heads)
   pub ranges : Ready e (m .ranges) (m .levels)
-  pub covers : (j n : ℕ) → next-key m ≤ j → j < m .fence → n ≤ m .levels → levels-cover e (m .ranges) j n 0 ≡ ltb (m .cover) n
+  pub covers : (j n : ℕ) → next-key m ≤ j → j < m .fence → n ≤ m .levels → Covering e (m .ranges) (m .date) (m .cover) j n
   pub last : m .hi ≤ 65535
 
 -- The same to come; the sweep is on its way, or has come to a live docket or to none.
@@ -50,6 +53,7 @@ told m going alive key value stamp = record {
   ranges = m .ranges;
   levels = m .levels;
   cover = m .cover;
+  date = m .date;
   fence = m .fence;
   from = m .from;
   hi = m .hi;
@@ -71,6 +75,7 @@ moved m heads from = record {
   ranges = m .ranges;
   levels = m .levels;
   cover = m .cover;
+  date = m .date;
   fence = m .fence;
   from = from;
   hi = m .hi;
@@ -82,20 +87,20 @@ moved m heads from = record {
 }
 
 -- The first record is passed: one of its docket was passed before, or its docket is not live, or is.
-abbrev pub gone : List ℕ → Sweep → Bool → Sweep
-gone e m covered =
+abbrev pub gone : List ℕ → Sweep → Sweep
+gone e m =
     let k = next-key m in
     let s = m .heads .slot in
     let heads = passed e (m .heads) in
     let r = moved m heads (k + 1) in
     cond (ltb k (m .from)) (moved m heads (m .from))
-    (cond (covered || not (eqb (kind-of e s) 1)) r (told r 0 1 k (tally-of e s) (stamp-of e s)))
+    (cond (not (eqb (kind-of e s) 1) || leb (stamp-of e s) (date-above e m)) r (told r 0 1 k (tally-of e s) (stamp-of e s)))
 
 -- Nothing is left up to hi, or the fence is reached, or the first record is passed.
 abbrev pub neared : List ℕ → Sweep → Sweep
 neared e m =
     cond (ltb (m .hi) (next-key m)) (told m 0 0 (m .key) (m .value) (m .stamp))
-    (cond (leb (m .fence) (next-key m)) (standing m 1) (gone e m (ltb (m .cover) (next-level m))))
+    (cond (leb (m .fence) (next-key m)) (standing m 1) (gone e m))
 
 -- The rows of the live dockets that are still to come, up to hi.
 abbrev pub rest : List ℕ → Sweep → List (Row ℕ)

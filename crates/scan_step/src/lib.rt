@@ -1,7 +1,6 @@
 // A sweep over the levels, and its step: the least record to come is passed, and its docket is live or not.
 use scan_heads::Heads;
 use scan_heads::key_of;
-use scan_heads::level_of;
 use scan_heads::pass;
 use table_slots::PUT;
 use table_slots::kind_of;
@@ -9,8 +8,7 @@ use table_slots::stamp_of;
 use table_slots::tally_of;
 ghost use mathlib.Core.Path.{_≡_};
 ghost use Prim.Native.Nat.{_≤_};
-ghost use Rattle.scan_heads.specs.Heads.{key-of};
-ghost use Rattle.scan_step.specs.Sweeps.{told, standing, gone, neared, Sweeping};
+ghost use Rattle.scan_step.specs.Sweeps.{next-key, is-hidden, told, standing, gone, neared, Sweeping};
 
 // How a sweep stands: it has come to a live docket, or to none.
 pub const ARRIVED: u32 = 0;
@@ -18,14 +16,16 @@ pub const ARRIVED: u32 = 0;
 // It is on its way.
 pub const SEARCHING: u32 = 1;
 
-// What each of some levels has next, point and range; the shallowest level with a range over the dockets before the fence; the docket
-// from which on, and the last up to which live ones are listed; how the sweep stands (going), whether it has come to a live docket
-// (1 or 0), and to which. No field is a bool: the gap beside it would be copied byte by byte.
+// What each of some levels has next, point and ranges (two places a level); the latest date of the ranges over the dockets before the
+// fence, and how many levels it takes to have it (cover); the docket from which on, and the last up to which live ones are listed; how the
+// sweep stands (going), whether it has come to a live docket (1 or 0), and to which. No field is a bool: the gap beside it would be copied
+// byte by byte.
 pub struct Sweep {
     pub heads: Heads,
-    pub ranges: [usize; 7],
+    pub ranges: [usize; 14],
     pub levels: usize,
     pub cover: usize,
+    pub date: u32,
     pub fence: u32,
     pub from: u32,
     pub hi: u32,
@@ -36,7 +36,7 @@ pub struct Sweep {
     pub stamp: u32,
 }
 
-// One record, where its docket lies before the fence.
+// One record, where its docket lies before the fence and its stamp is past the latest date.
 pub fn near(e: &[u32], m: Sweep) -> Sweep
     requires { ⌜ Sweeping (now e) m ⌝ }
     ensures { λ r. ⌜ r ≡ neared (now (e .entry)) m ⌝ }
@@ -48,15 +48,19 @@ pub fn near(e: &[u32], m: Sweep) -> Sweep
     if m.fence <= key {
         return stand(m, SEARCHING);
     }
-    go(e, m, m.cover < level_of(m.heads.first))
+    if stamp_of(e, m.heads.slot) <= m.date {
+        return stand(m, SEARCHING);
+    }
+    go(e, m, false)
 }
 
-// The first record is passed. Its docket is live if no record of it was passed before, no level above has a range over it (covered),
-// and it is a put.
-pub fn go(e: &[u32], m: Sweep, covered: bool) -> Sweep
+// The first record is passed. Its docket is live if no record of it was passed before, no level above has a range over it whose date is
+// no earlier than its stamp (hidden), and it is a put.
+pub fn go(e: &[u32], m: Sweep, hidden: bool) -> Sweep
     requires { ⌜ Sweeping (now e) m ⌝ }
-    requires { ⌜ key-of (m .heads .first) ≤ m .hi ⌝ }
-    ensures { λ r. ⌜ r ≡ gone (now (e .entry)) m covered ⌝ }
+    requires { ⌜ next-key m ≤ m .hi ⌝ }
+    requires { ⌜ hidden ≡ is-hidden (now e) m ⌝ }
+    ensures { λ r. ⌜ r ≡ gone (now (e .entry)) m ⌝ }
 {
     let heads = m.heads;
     let key = key_of(heads.first);
@@ -69,7 +73,7 @@ pub fn go(e: &[u32], m: Sweep, covered: bool) -> Sweep
         return r;
     }
     r.from = key + 1;
-    if covered {
+    if hidden {
         return r;
     }
     if kind_of(e, slot) != PUT {

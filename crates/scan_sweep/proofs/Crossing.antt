@@ -9,10 +9,10 @@ use Rattle.tables.specs.Words.{Fits32}
 use Rattle.lists.proofs.Bools.{by-cases}
 use Rattle.model.specs.Lookup.{lookup}
 use Rattle.scan_heads.specs.Heads.{point}
-use Rattle.scan_heads.proofs.Passing.{level-inside}
-use Rattle.scan_fences.proofs.Covers.{Viewed, viewed}
+use Rattle.scan_fences.specs.Fences.{ranges-in}
+use Rattle.scan_fences.proofs.Surveys.{Viewed, viewed}
 use Rattle.scan_step.specs.declared.Sweep.{Sweep}
-use Rattle.scan_step.specs.Sweeps.{range-at, to-come, next-key, next-level, Sweeping, told, gone, neared, rest, Stepped}
+use Rattle.scan_step.specs.Sweeps.{to-come, next-key, Sweeping, told, gone, neared, rest, Stepped}
 use Rattle.scan_step.proofs.Live.{live-same}
 use Rattle.scan_step.proofs.Coming.{looks-same, decides-same}
 use Rattle.scan_step.proofs.Steps.{nothing-before, stepped-none, gone-stepped, near-stepped}
@@ -22,7 +22,7 @@ module _ (e : List ℕ) (m : Sweep) where
   pub crossed-none : m .hi < next-key m → crossed e m ≡ told m 0 0 (m .key) (m .value) (m .stamp)
   crossed-none lt = rw (lt-ltb (m .hi) (next-key m) lt)
 
-  pub crossed-gone : next-key m ≤ m .hi → crossed e m ≡ gone e (viewing m (view-of e m)) (ltb (view-of e m .cover .level) (next-level m))
+  pub crossed-gone : next-key m ≤ m .hi → crossed e m ≡ gone e (viewing m (view-of e m))
   crossed-gone le = rw (le-ltb (m .hi) (next-key m) le)
 
   pub step-crosses : m .fence ≤ next-key m → step-of e m ≡ crossed e m
@@ -39,6 +39,10 @@ module _ {e : List ℕ} {m : Sweep} (words : Fits32 e) (s : Sweeping e m) where
     view : Viewed e (m .ranges) (next-key m) (m .levels) (view-of e m)
     view = viewed e words (next-key m) (m .levels) (omega (arith, s .last)) (m .ranges) (s .ranges)
 
+    -- The survey holds for the docket, and so far as it says.
+    pub viewing-past : next-key m < v .fence
+    viewing-past = view .past
+
     pub viewing-sweeping : Sweeping e v
     viewing-sweeping = record { points = s .points; ranges = view .ready; covers = view .covers; last = s .last }
 
@@ -49,18 +53,16 @@ module _ {e : List ℕ} {m : Sweep} (words : Fits32 e) (s : Sweeping e m) where
         let lt = ltb-true j (next-key m) t in
         nothing-before words viewing-sweeping j lt ∙ sym (nothing-before words s j lt))
         (λ t.
-        looks-same e (point (m .heads)) (range-at (m .ranges)) (point (m .heads)) (range-at (v .ranges)) j (m .levels)
-        (λ i lt. decides-same e (point (m .heads) i) (range-at (m .ranges) i) (point (m .heads) i) (range-at (v .ranges) i) j refl
+        looks-same e (point (m .heads)) (point (m .heads)) (ranges-in e (m .ranges)) (ranges-in e (v .ranges)) j (m .levels)
+        (λ i lt. decides-same e (point (m .heads) i) (point (m .heads) i) (ranges-in e (m .ranges) i) (ranges-in e (v .ranges) i) j (λ date. refl)
         (view .says i j lt (ltb-false j (next-key m) t))))
 
     viewing-rest : rest e v ≡ rest e m
     viewing-rest = live-same (lookup (to-come e v)) (lookup (to-come e m)) (m .from) (m .hi) (λ j a. viewing-looks j)
 
-    crossing : Stepped e m (gone e v (ltb (v .cover) (next-level m)))
+    crossing : Stepped e m (gone e v)
     crossing =
-        let inside = level-inside (s .points) (omega (arith, s .last)) in
-        let covered = view .covers (next-key m) (next-level m) (omega arith) (view .past) (omega arith) in
-        let st = gone-stepped words viewing-sweeping le (ltb (v .cover) (next-level m)) (sym covered) in
+        let st = gone-stepped words viewing-sweeping le in
         record { sweeping = st .sweeping; leads = sym viewing-rest ∙ st .leads; fewer = st .fewer }
 
   pub step-stepped : Stepped e m (step-of e m)

@@ -3,41 +3,43 @@ use mathlib.Core.Bool.{cond}
 use mathlib.Core.List.{List}
 use Prim.Native.Nat.{ℕ, zero, suc, _+_}
 use lib.Dec.{eqb, leb, ltb}
-use lib.ListN.{set, replicate}
+use lib.ListN.{replicate}
 use Rattle.lists.specs.Lists.{iterate}
 use Rattle.tables.specs.Rows.{settings-of, level-row}
 use Rattle.tables.specs.Sound.{chain-from}
 use Rattle.chain_cover.specs.Skips.{first-slot, beginning}
+use Rattle.chain_cover.specs.Fronts.{front-at}
 use Rattle.scan_heads.specs.declared.Heads.{Heads}
 use Rattle.scan_heads.specs.Heads.{head-at, pushed, blank, left}
-use Rattle.scan_fences.specs.Fences.{View, surveyed}
+use Rattle.scan_fences.specs.Fences.{put-front, View, surveyed}
 use Rattle.scan_step.specs.declared.Sweep.{Sweep}
-use Rattle.scan_step.specs.Sweeps.{next-key, next-level, told, standing, gone, neared}
+use Rattle.scan_step.specs.Sweeps.{next-key, told, standing, gone, neared}
 
 -- The first point of level i that is not before lo.
-abbrev pub front-at : List ℕ → List ℕ → ℕ → ℕ → ℕ
-front-at e l lo i = first-slot (beginning e lo (chain-from e (level-row l i .points)))
+abbrev pub first-from : List ℕ → List ℕ → ℕ → ℕ → ℕ
+first-from e l lo i = first-slot (beginning e lo (chain-from e (level-row l i .points)))
 
--- The heads of n levels from there on, and their first ranges.
+-- The heads of n levels from there on, and their ranges.
 abbrev pub opened-heads : List ℕ → List ℕ → ℕ → ℕ → Heads
-opened-heads e l lo n = iterate (λ i a. pushed a (head-at e i (front-at e l lo i))) 0 n blank
+opened-heads e l lo n = iterate (λ i a. pushed a (head-at e i (first-from e l lo i))) 0 n blank
 
-abbrev pub opened-ranges : List ℕ → ℕ → List ℕ
-opened-ranges l n = iterate (λ i rs. set rs i (level-row l i .ranges)) 0 n (replicate 7 0)
+abbrev pub opened-ranges : List ℕ → List ℕ → ℕ → List ℕ
+opened-ranges e l n = iterate (λ i rs. put-front rs i (front-at e (level-row l i .ranges))) 0 n (replicate 14 0)
 
 -- A sweep that sets out; no fence is known.
 abbrev pub opened : List ℕ → List ℕ → ℕ → ℕ → Sweep
 opened e l lo hi =
     let n = settings-of l .deepest + 1 in
-    record { heads = opened-heads e l lo n; ranges = opened-ranges l n; levels = n; cover = 0; fence = 0; from = lo; hi = hi; going = 1; live = 0; key = 0; value = 0; stamp = 0 }
+    record { heads = opened-heads e l lo n; ranges = opened-ranges e l n; levels = n; cover = 0; date = 0; fence = 0; from = lo; hi = hi; going = 1; live = 0; key = 0; value = 0; stamp = 0 }
 
 -- A sweep that has come to its end.
 abbrev pub over : Sweep
 over = record {
   heads = record { slot = 0; first = 0; h1 = 0; h2 = 0; h3 = 0; h4 = 0; h5 = 0; h6 = 0 };
-  ranges = replicate 7 0;
+  ranges = replicate 14 0;
   levels = 0;
   cover = 0;
+  date = 0;
   fence = 0;
   from = 0;
   hi = 0;
@@ -50,17 +52,17 @@ over = record {
 
 -- The ranges were surveyed.
 abbrev pub viewing : Sweep → View → Sweep
-viewing m v = record { heads = m .heads; ranges = v .ranges; levels = m .levels; cover = v .cover .level; fence = v .cover .fence; from = m .from; hi = m .hi; going = m .going; live = m .live; key = m .key; value = m .value; stamp = m .stamp }
+viewing m v = record { heads = m .heads; ranges = v .ranges; levels = m .levels; cover = v .cover .level; date = v .cover .date; fence = v .cover .fence; from = m .from; hi = m .hi; going = m .going; live = m .live; key = m .key; value = m .value; stamp = m .stamp }
 
 -- For the first record's docket.
 abbrev pub view-of : List ℕ → Sweep → View
-view-of e m = surveyed e (next-key m) (m .levels) 0 (m .ranges) 65536
+view-of e m = surveyed e (next-key m) (m .levels) (m .ranges)
 
 -- The first record is passed, wherever its docket lies.
 abbrev pub crossed : List ℕ → Sweep → Sweep
 crossed e m =
     cond (ltb (m .hi) (next-key m)) (told m 0 0 (m .key) (m .value) (m .stamp))
-    (gone e (viewing m (view-of e m)) (ltb (view-of e m .cover .level) (next-level m)))
+    (gone e (viewing m (view-of e m)))
 
 abbrev pub step-of : List ℕ → Sweep → Sweep
 step-of e m = cond (leb (m .fence) (next-key m)) (crossed e m) (neared e m)

@@ -1,4 +1,6 @@
 // The live dockets of sound tables in ascending order, one after the other. Each record is passed once: the heads of all levels ascend,
+// and the least is next.
+use chain_cover::front_at;
 use chain_cover::seek;
 use scan_fences::survey;
 use scan_heads::Heads;
@@ -16,11 +18,11 @@ use scan_step::none;
 use scan_step::stand;
 use table_levels::deepest_of;
 use table_levels::level_at;
-// and the least is next.
+use table_slots::stamp_of;
 ghost use mathlib.Core.Path.{_≡_};
-ghost use Prim.Native.Nat.{_≤_};
+ghost use Prim.Native.Nat.{_<_, _≤_};
 ghost use Rattle.lookup_level.specs.Readable.{Readable};
-ghost use Rattle.scan_step.specs.Sweeps.{Sweeping};
+ghost use Rattle.scan_step.specs.Sweeps.{next-key, date-above, is-hidden, Sweeping};
 ghost use Rattle.scan_sweep.specs.Sweeps.{opened, over, crossed, step-of, searched, advanced};
 
 // Comes to the first live docket from lo to hi.
@@ -48,9 +50,10 @@ pub fn ended() -> Sweep
     };
     Sweep {
         heads: heads,
-        ranges: [0; 7],
+        ranges: [0; 14],
         levels: 0,
         cover: 0,
+        date: 0,
         fence: 0,
         from: 0,
         hi: 0,
@@ -82,12 +85,15 @@ fn open(e: &[u32], l: &[u32], lo: u32, hi: u32) -> Sweep
 {
     let levels = deepest_of(l) + 1;
     let mut heads = nothing();
-    let mut ranges = [0usize; 7];
+    let mut ranges = [0usize; 14];
     let mut i = 0;
     while i < levels {
         let row = level_at(l, i);
         heads = push(heads, head(e, i, seek(e, row.points, lo)));
-        ranges[i] = row.ranges;
+        let f = front_at(e, row.ranges);
+        let at = 2 * i;
+        ranges[at] = f.first;
+        ranges[at + 1] = f.behind;
         i += 1;
     }
     Sweep {
@@ -95,6 +101,7 @@ fn open(e: &[u32], l: &[u32], lo: u32, hi: u32) -> Sweep
         ranges: ranges,
         levels: levels,
         cover: 0,
+        date: 0,
         fence: 0,
         from: lo,
         hi: hi,
@@ -119,31 +126,64 @@ fn search(e: &[u32], m: Sweep) -> Sweep
     r
 }
 
-// One record, wherever its docket lies.
+// One record, wherever its docket lies, and whatever its stamp.
 fn step(e: &[u32], m: Sweep) -> Sweep
     requires { ⌜ Sweeping (now e) m ⌝ }
     ensures { λ r. ⌜ r ≡ step-of (now (e .entry)) m ⌝ }
-{
-    if m.fence <= key_of(m.heads.first) {
-        return cross(e, m);
-    }
-    near(e, m)
-}
-
-// One record whose docket lies past the fence: the ranges are surveyed first.
-fn cross(e: &[u32], m: Sweep) -> Sweep
-    requires { ⌜ Sweeping (now e) m ⌝ }
-    ensures { λ r. ⌜ r ≡ crossed (now (e .entry)) m ⌝ }
 {
     let key = key_of(m.heads.first);
     if m.hi < key {
         return none(m);
     }
+    if m.fence <= key {
+        return cross(e, m);
+    }
+    go(e, m, is_hidden(e, m))
+}
+
+// One record whose docket lies past the fence: the ranges are surveyed first.
+fn cross(e: &[u32], m: Sweep) -> Sweep
+    requires { ⌜ Sweeping (now e) m ⌝ }
+    requires { ⌜ next-key m ≤ m .hi ⌝ }
+    ensures { λ r. ⌜ r ≡ crossed (now (e .entry)) m ⌝ }
+{
+    let key = key_of(m.heads.first);
     let mut ranges = m.ranges;
     let cover = survey(e, &mut ranges, m.levels, key);
     let mut r = m;
     r.ranges = ranges;
-    r.cover = cover.level;
+    r.cover = cover.depth;
+    r.date = cover.date;
     r.fence = cover.fence;
-    go(e, r, cover.level < level_of(m.heads.first))
+    go(e, r, is_hidden(e, r))
+}
+
+// Whether a level above the first record's has a range over its docket whose date is no earlier than its stamp. The latest date before
+// the fence tells, but where the levels above are fewer than it takes to have it: equal clocks aside, no list of calls comes there.
+fn is_hidden(e: &[u32], m: Sweep) -> bool
+    requires { ⌜ Sweeping (now e) m ⌝ }
+    requires { ⌜ (next-key m ≤ m .hi) × (next-key m < m .fence) ⌝ }
+    ensures { λ r. ⌜ r ≡ is-hidden (now (e .entry)) m ⌝ }
+{
+    let stamp = stamp_of(e, m.heads.slot);
+    if m.date < stamp {
+        return false;
+    }
+    if m.cover <= level_of(m.heads.first) {
+        return true;
+    }
+    stamp <= latest_above(e, m)
+}
+
+// The levels above the first record's are asked for its docket.
+fn latest_above(e: &[u32], m: Sweep) -> u32
+    requires { ⌜ Sweeping (now e) m ⌝ }
+    requires { ⌜ next-key m ≤ m .hi ⌝ }
+    ensures { λ r. ⌜ r ≡ date-above (now (e .entry)) m ⌝ }
+{
+    let level = level_of(m.heads.first);
+    let key = key_of(m.heads.first);
+    let mut ranges = m.ranges;
+    let above = survey(e, &mut ranges, level, key);
+    above.date
 }

@@ -20,7 +20,7 @@ returns c =
     let read = c .before in
     let a = read .before .before .before .args in
     c .look-chains .ensures
-    ∙ ap (λ (v : Level). level-decides (chain-level (a .e .now) (v .points) (v .ranges)) (a .docket)) (read .level-at .ensures)
+    ∙ ap (λ (v : Level). level-decides (a .date) (chain-level (a .e .now) (v .points) (v .ranges)) (a .docket)) (read .level-at .ensures)
 
 pub look-level-spec : {M : Type 1} → statement M
 look-level-spec = tie.close (tie.spec level-at-requires look-chains-requires returns)

@@ -1,4 +1,4 @@
--- `look_up`: the loop keeps that the levels that are left give what all levels give.
+-- `look_up`: the loop keeps that the levels that are left, with the latest date met so far, give what all levels give.
 use mathlib.Core.Path.{_≡_, refl, sym, _∙_}
 use Prim.Native.Nat.{ℕ, suc, _+_, _-_, _≤_}
 use native.Mathlib.Omega.{arith}
@@ -12,12 +12,12 @@ use Rattle.lookup.proofs.look_up.Statement.{statement}
 use Rattle.lookup.proofs.look_up.Tie as tie
 
 abbrev Inv-loop : tie.InvT-loop
-Inv-loop e l docket levels left₀ left =
+Inv-loop e l docket levels left₀ date₀ left date =
     (left ≤ levels) × (levels ≡ settings-of l .deepest + 1)
-    × (look-from e l docket left (levels - left) ≡ lookup (read-state e l .levels) docket)
+    × (look-from e l docket left (levels - left) date ≡ lookup (read-state e l .levels) docket)
 
 abbrev μ-loop : tie.MeasureT-loop
-μ-loop e l docket levels left₀ left = left
+μ-loop e l docket levels left₀ date₀ left date = left
 
 -- Where the code stands, seen from a later place.
 abbrev entry-of : tie.At-loop Inv-loop μ-loop → tie.Start Inv-loop μ-loop
@@ -34,7 +34,7 @@ settled : (c : tie.After-look-level Inv-loop μ-loop) (next : ℕ) (w : Decided)
 settled c next w n is =
     let turn = c .before .before in
     let a = entry-of turn .args in
-    sym (look-next (a .e .now) (a .l .now) (a .docket) _ _ next _ w (c .before .loop-test .taken) n (c .look-level .ensures) is) ∙ turn .loop .inv .2
+    sym (look-next (a .e .now) (a .l .now) (a .docket) _ _ _ next _ w (c .before .loop-test .taken) n (c .look-level .ensures) is) ∙ turn .loop .inv .2
 
 deepest-of-requires : tie.Need-deepest-of-requires Inv-loop μ-loop
 deepest-of-requires c κs = omega (arith, c .before .before .pre .rows)
@@ -72,8 +72,8 @@ enum-told c = c .match .keys2
 returns-2 : tie.Need-returns-2 Inv-loop μ-loop
 returns-2 c = settled (c .before .before) _ _ refl (c .enum-told .given .1)
 
-enum-told-2 : tie.Need-enum-told-2 Inv-loop μ-loop
-enum-told-2 c = c .match .keys3
+enum-known-met : tie.Need-enum-known-met Inv-loop μ-loop
+enum-known-met c = c .match .keys3
 
 sub-left : tie.Need-sub-left Inv-loop μ-loop
 sub-left c = omega arith
@@ -83,15 +83,15 @@ loop-less c = omega arith
 
 loop-again : tie.Need-loop-again Inv-loop μ-loop
 loop-again c =
-    let said = c .before .before in
+    let said = c .before .before .before in
     let turn = said .before .before in
-    (omega arith, turn .loop .inv .1, settled said _ _ (omega arith) (c .enum-told2 .given .1))
+    (omega arith, turn .loop .inv .1, settled said _ _ (omega arith) (c .before .met .given .1))
 
 returns-3 : tie.Need-returns-3 Inv-loop μ-loop
 returns-3 c =
     let turn = c .before in
     let a = entry-of turn .args in
-    sym (look-none (a .e .now) (a .l .now) (a .docket) _ _ (c .loop-test .left)) ∙ turn .loop .inv .2
+    sym (look-none (a .e .now) (a .l .now) (a .docket) _ _ _ (c .loop-test .left)) ∙ turn .loop .inv .2
 
 pub look-up-spec : {M : Type 1} → statement M
 look-up-spec =
@@ -108,7 +108,7 @@ look-up-spec =
     returns
     enum-told
     returns-2
-    enum-told-2
+    enum-known-met
     sub-left
     loop-less
     loop-again

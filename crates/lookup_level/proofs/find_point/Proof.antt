@@ -10,10 +10,10 @@ use Rattle.lookup_level.proofs.find_point.Statement.{statement}
 use Rattle.lookup_level.proofs.find_point.Tie as tie
 
 abbrev Inv-loop : tie.InvT-loop
-Inv-loop e head docket at₀ at = Ordered e at × (points-say e at docket ≡ points-say e head docket)
+Inv-loop e head docket date at₀ at = Ordered e at × (points-say e at date docket ≡ points-say e head date docket)
 
 abbrev μ-loop : tie.MeasureT-loop
-μ-loop e head docket at₀ at = length (chain-from e at)
+μ-loop e head docket date at₀ at = length (chain-from e at)
 
 -- The chain in a turn of the loop.
 on : (c : tie.In-loop Inv-loop μ-loop) → On (c .before .before .before .args .e .now) (c .before .loop .at)
@@ -29,7 +29,7 @@ returns : tie.Need-returns Inv-loop μ-loop
 returns c =
     let turn = c .before .before in
     let known = turn .before .before in
-    sym (points-past _ _ _ (on turn) (λ i. omega (arith, known .shared-slice-known .given i)) (omega (arith, c .before .lo-of .ensures)))
+    sym (points-past _ _ _ _ (on turn) (λ i. omega (arith, known .shared-slice-known .given i)) (omega (arith, c .before .lo-of .ensures)))
     ∙ turn .before .loop .inv .1
 
 tell-requires : tie.Need-tell-requires Inv-loop μ-loop
@@ -39,7 +39,7 @@ returns-2 : tie.Need-returns-2 Inv-loop μ-loop
 returns-2 c =
     let read = c .before .before .before in
     let turn = read .before in
-    c .tell .ensures ∙ sym (points-here _ _ _ (on turn) (omega (arith, read .lo-of .ensures))) ∙ turn .before .loop .inv .1
+    c .tell .ensures ∙ sym (points-here _ _ _ _ (on turn) (omega (arith, read .lo-of .ensures))) ∙ turn .before .loop .inv .1
 
 next-of-requires : tie.Need-next-of-requires Inv-loop μ-loop
 next-of-requires c κs = on (c .before .before .before) .within
@@ -51,12 +51,12 @@ loop-again : tie.Need-loop-again Inv-loop μ-loop
 loop-again c =
     let read = c .before .before .before in
     let turn = read .before in
-    rw (c .next-of .ensures) (on turn .rest, sym (points-next _ _ _ (on turn) (λ q. omega (arith, read .lo-of .ensures))) ∙ turn .before .loop .inv .1)
+    rw (c .next-of .ensures) (on turn .rest, sym (points-next _ _ _ _ (on turn) (λ q. omega (arith, read .lo-of .ensures))) ∙ turn .before .loop .inv .1)
 
 returns-3 : tie.Need-returns-3 Inv-loop μ-loop
 returns-3 c =
     let a = c .before .before .before .args in
-    sym (points-end (a .e .now) (c .before .loop .at) (a .docket) (c .loop-test .left)) ∙ c .before .loop .inv .1
+    sym (points-end (a .e .now) (c .before .loop .at) (a .date) (a .docket) (c .loop-test .left)) ∙ c .before .loop .inv .1
 
 pub find-point-spec : {M : Type 1} → statement M
 find-point-spec =

@@ -1,124 +1,142 @@
--- `scan_fences::survey`: the loop keeps true that the survey from level `i` on, with the fence so far, is the survey from the first level on.
-use mathlib.Core.Path.{_≡_, refl, sym, _∙_}
-use Prim.Native.Nat.{_+_, _*_, _-_, _≤_}
+-- `scan_fences::survey`: the loop keeps what a survey of the first `i` levels says, and that with the levels still to come it is the survey of all.
+use mathlib.Core.Path.{_≡_, refl, sym, ap, _∙_}
+use mathlib.Core.List.{List}
+use Prim.Native.Nat.{ℕ, suc, _+_, _-_, _*_, _<_, _≤_}
 use native.Mathlib.Numerals.{add-one}
 use native.Mathlib.Omega.{arith}
 use borrow.Author.Needs.{needs}
 use lib.ListN.{length, length-set}
-use Rattle.tables.proofs.Slots.{hi-small}
-use Rattle.tables.specs.Slots.{hi-of}
+use Rattle.lists.specs.Lists.{iterate}
+use Rattle.lists.proofs.Loops.{iterate-end, iterate-next}
 use Rattle.tables.specs.Words.{Fits32}
-use Rattle.chain_cover.specs.Skips.{Ahead}
-use Rattle.chain_cover.proofs.Chains.{go-on}
-use Rattle.scan_fences.specs.Fences.{Ready, chain-covers, surveyed}
-use Rattle.scan_fences.proofs.Surveys.{survey-end, survey-here, survey-next, covering-some, passed-ahead, passed-ready}
+use Rattle.chain_cover.proofs.Fronts.{advanced-ordered}
+use Rattle.scan_fences.specs.Fences.{unseen, Survey, survey-level, view, surveyed}
+use Rattle.scan_fences.proofs.Surveys.{level-surveyed, Surveying, surveying-none, surveying-next}
 use Rattle.scan_fences.proofs.survey.Statement.{statement}
 use Rattle.scan_fences.proofs.survey.Tie as tie
 
+-- What is known of levels from i on, where v was seen of those above.
+record Going (e start : List ℕ) (k n i : ℕ) (v : Survey) : Type 0 where
+  pub above : Surveying e start k n i v
+  pub all : iterate (survey-level e k) i (n - i) v ≡ iterate (survey-level e k) 0 n (record { ranges = start; seen = unseen })
+  pub few : i ≤ n
+
 abbrev Inv-loop : tie.InvT-loop
-Inv-loop e ranges₀ levels docket fence₀ i₀ ranges fence i =
-    Ready e ranges levels × (length ranges ≡ length ranges₀) × (surveyed e docket (levels - i) i ranges fence ≡ surveyed e docket levels 0 ranges₀ 65536) × (i ≤ levels)
+Inv-loop e ranges₀ levels docket seen₀ i₀ ranges seen i = Going e ranges₀ docket levels i (record { ranges = ranges; seen = seen })
 
 abbrev μ-loop : tie.MeasureT-loop
-μ-loop e ranges₀ levels docket fence₀ i₀ ranges fence i = levels - i
+μ-loop e ranges₀ levels docket seen₀ i₀ ranges seen i = levels - i
 
--- Where the code stands: at the entry, and in a turn, seen from where the level's front is passed.
+-- Where the code stands: at the entry, and in a turn, seen from where the level's front is advanced.
 abbrev entry : tie.At-loop Inv-loop μ-loop → tie.Start Inv-loop μ-loop
 entry c = c .before .before .before
 
-abbrev turn : tie.After-skip Inv-loop μ-loop → tie.In-loop Inv-loop μ-loop
-turn c = c .before .before
+abbrev turn : tie.After-advance Inv-loop μ-loop → tie.In-loop Inv-loop μ-loop
+turn c = c .before .before .before
 
-abbrev level : tie.After-skip Inv-loop μ-loop → tie.At-loop Inv-loop μ-loop
-level c = turn c .before
-
-ahead : (c : tie.After-skip Inv-loop μ-loop) → let a = entry (level c) .args in Ahead (a .e .now) (hi-of (a .e .now)) (c .skip .result) (a .docket)
-ahead c = passed-ahead (level c .loop .inv .0) _ _ _ (turn c .loop-test .taken) (c .skip .ensures)
+-- There is room for the level's two slots.
+room : (c : tie.In-loop Inv-loop μ-loop) → 2 * c .before .loop .i + 1 < length (c .before .loop .ranges)
+room c = omega (arith, c .before .loop .inv .above .ready .room, c .loop-test .taken)
 
 words : (c : tie.At-loop Inv-loop μ-loop) → Fits32 (entry c .args .e .now)
 words c = λ i. omega (arith, c .before .before .shared-slice-known .given i)
 
-said : (c : tie.After-first-covers Inv-loop μ-loop) → let a = entry (level (c .before)) .args in
-    chain-covers (a .e .now) (c .before .skip .result) (a .docket) ≡ c .first-covers .result
-said c = sym (c .first-covers .ensures)
-
 loop-holds : tie.Need-loop-holds Inv-loop μ-loop
 loop-holds c =
-    let all : c .before .before .args .levels - 0 ≡ c .before .before .args .levels = omega arith in
-    (c .before .before .pre .0, refl, rw all, omega arith)
+    let start = c .before .before in
+    let all : start .args .levels - 0 ≡ start .args .levels = omega arith in
+    record {
+      above = surveying-none _ (λ i. omega (arith, c .before .shared-slice-known .given i)) _ _ _ (start .pre .1) (start .pre .0);
+      all = rw all;
+      few = omega arith;
+    }
 
-mul-skip : tie.Need-mul-skip Inv-loop μ-loop
-mul-skip c = search needs
+mul-at : tie.Need-mul-at Inv-loop μ-loop
+mul-at c = omega (arith, room c)
 
-slice-read-skip : tie.Need-slice-read-skip Inv-loop μ-loop
-slice-read-skip c = search needs
+mul-t11 : tie.Need-mul-t11 Inv-loop μ-loop
+mul-t11 c = omega (arith, room c)
 
-skip-requires : tie.Need-skip-requires Inv-loop μ-loop
-skip-requires c κs = c .before .before .loop .inv .0 .order _ (c .before .loop-test .taken)
+slice-read-t13 : tie.Need-slice-read-t13 Inv-loop μ-loop
+slice-read-t13 c = omega (arith, room (c .before))
+
+add-ranges : tie.Need-add-ranges Inv-loop μ-loop
+add-ranges c = omega (arith, room (c .before))
 
 mul-ranges : tie.Need-mul-ranges Inv-loop μ-loop
-mul-ranges c = search needs
+mul-ranges c = omega (arith, room (c .before))
+
+slice-read-ranges : tie.Need-slice-read-ranges Inv-loop μ-loop
+slice-read-ranges c = omega (arith, room (c .before .before))
+
+advance-requires : tie.Need-advance-requires Inv-loop μ-loop
+advance-requires c κs = 
+    let level = c .before .before in
+    level .before .loop .inv .above .ready .order _ (level .loop-test .taken)
+
+mul-ranges-2 : tie.Need-mul-ranges-2 Inv-loop μ-loop
+mul-ranges-2 c = omega (arith, room (turn c))
 
 slice-write-ranges : tie.Need-slice-write-ranges Inv-loop μ-loop
-slice-write-ranges c = search needs
+slice-write-ranges c = omega (arith, room (turn c))
 
-first-covers-requires : tie.Need-first-covers-requires Inv-loop μ-loop
-first-covers-requires c κs = ahead c
+add-ranges-2 : tie.Need-add-ranges-2 Inv-loop μ-loop
+add-ranges-2 c = omega (arith, room (turn c))
 
-hi-of-requires : tie.Need-hi-of-requires Inv-loop μ-loop
-hi-of-requires c κs =
-    let s = c .before .before in
-    let some = covering-some _ (words (level s)) _ _ (ahead s) (said (c .before) ∙ c .if1 .taken) in
-    go-on _ _ (ahead s .ordered) some .within
+mul-ranges-3 : tie.Need-mul-ranges-3 Inv-loop μ-loop
+mul-ranges-3 c = omega (arith, room (turn c))
+
+slice-write-ranges-2 : tie.Need-slice-write-ranges-2 Inv-loop μ-loop
+slice-write-ranges-2 c = 
+    let l = turn c .before .loop in
+    rw (length-set (l .ranges) (2 * l .i) (c .advance .result .first)) (room (turn c))
+
+front-latest-requires : tie.Need-front-latest-requires Inv-loop μ-loop
+front-latest-requires c κs =
+    let level = turn c in
+    rw (c .advance .ensures) (advanced-ordered _ _ _ (level .before .loop .inv .above .ready .order _ (level .loop-test .taken)))
+
+see-requires : tie.Need-see-requires Inv-loop μ-loop
+see-requires c κs = search needs
+
+add-i : tie.Need-add-i Inv-loop μ-loop
+add-i c = omega (arith, turn (c .before .before) .loop-test .taken)
+
+loop-less : tie.Need-loop-less Inv-loop μ-loop
+loop-less c = omega (arith, turn (c .before .before) .loop-test .taken)
+
+loop-again : tie.Need-loop-again Inv-loop μ-loop
+loop-again c = 
+    let in-turn = turn (c .before .before) in
+    let l = in-turn .before .loop in
+    let more = in-turn .loop-test .taken in
+    let a = entry (in-turn .before) .args in
+    let v : Survey = record { ranges = l .ranges; seen = l .seen } in
+    let next = level-surveyed (a .e .now) (a .docket) (l .i) v _ (c .before .before .advance .ensures) _ (c .before .front-latest .ensures) _ (c .see .ensures) in
+    rw next
+    (record {
+      above = surveying-next _ (words (in-turn .before)) _ _ _ (entry (in-turn .before) .pre .1) (l .i) v more (l .inv .above);
+      all = sym (iterate-next (survey-level (a .e .now) (a .docket)) (a .levels) (l .i) v (l .i + 1) more (add-one (l .i))) ∙ l .inv .all;
+      few = omega (arith, more);
+    })
 
 add-lesser : tie.Need-add-lesser Inv-loop μ-loop
-add-lesser c =
-    let s = c .before .before .before in
-    omega (arith, c .hi-of .ensures, hi-small (entry (level s) .args .e .now) (words (level s)) (s .skip .result))
+add-lesser c = omega (arith, c .before .before .loop .inv .above .seen .low)
 
 lesser-requires : tie.Need-lesser-requires Inv-loop μ-loop
 lesser-requires c κs = search needs
 
 same-length : tie.Need-same-length Inv-loop μ-loop
-same-length c = search needs
+same-length c = c .before .before .before .loop .inv .above .same-length
 
 returns : tie.Need-returns Inv-loop μ-loop
+unfolding surveyed
 returns c =
-    let tested = c .before .before in
-    let s = tested .before .before in
-    rw (c .lesser .ensures, c .before .hi-of .ensures)
-    (sym (survey-here _ _ _ _ _ _ (turn s .loop-test .taken) _ (s .skip .ensures) (said (tested .before) ∙ tested .if1 .taken)) ∙ level s .loop .inv .2)
-
-key-at-requires : tie.Need-key-at-requires Inv-loop μ-loop
-key-at-requires c κs = ahead (c .before .before) .ordered
-
-lesser-requires-2 : tie.Need-lesser-requires-2 Inv-loop μ-loop
-lesser-requires-2 c κs = search needs
-
-add-i : tie.Need-add-i Inv-loop μ-loop
-add-i c = search needs
-
-loop-less : tie.Need-loop-less Inv-loop μ-loop
-loop-less c = search needs
-
-loop-again : tie.Need-loop-again Inv-loop μ-loop
-loop-again c =
-    let tested = c .before .before in
-    let s = tested .before .before in
-    let l = level s .loop in
-    let i = turn s .loop-test .taken in (
-      passed-ready (l .inv .0) _ _ _ i (s .skip .ensures),
-      length-set (l .ranges) (l .i) (s .skip .result) ∙ l .inv .1,
-      rw (c .lesser2 .ensures, c .before .key-at .ensures)
-          (sym (survey-next _ _ _ _ _ _ i _ (s .skip .ensures) _ (add-one _) (said (tested .before) ∙ tested .if1 .left)) ∙ l .inv .2),
-      omega (arith, i),
-    )
-
-same-length-2 : tie.Need-same-length-2 Inv-loop μ-loop
-same-length-2 c = search needs
-
-returns-2 : tie.Need-returns-2 Inv-loop μ-loop
-returns-2 c = sym (survey-end _ _ _ _ _ _ (c .loop-test .left)) ∙ c .before .loop .inv .2
+    let left = c .before .before in
+    let l = left .before .loop in
+    let a = entry (left .before) .args in
+    let v : Survey = record { ranges = l .ranges; seen = l .seen } in
+    rw (c .lesser .ensures) (ap view (sym (iterate-end (survey-level (a .e .now) (a .docket)) (a .levels) (l .i) v (left .loop-test .left)) ∙ l .inv .all))
 
 pub survey-spec : {M : Type 1} → statement M
 survey-spec =
@@ -127,21 +145,24 @@ survey-spec =
     Inv-loop
     μ-loop
     loop-holds
-    mul-skip
-    slice-read-skip
-    skip-requires
+    mul-at
+    mul-t11
+    slice-read-t13
+    add-ranges
     mul-ranges
+    slice-read-ranges
+    advance-requires
+    mul-ranges-2
     slice-write-ranges
-    first-covers-requires
-    hi-of-requires
-    add-lesser
-    lesser-requires
-    same-length
-    returns
-    key-at-requires
-    lesser-requires-2
+    add-ranges-2
+    mul-ranges-3
+    slice-write-ranges-2
+    front-latest-requires
+    see-requires
     add-i
     loop-less
     loop-again
-    same-length-2
-    returns-2)
+    add-lesser
+    lesser-requires
+    same-length
+    returns)

@@ -28,21 +28,16 @@ returns-2 c =
     rw (c .stand .ensures)
     (sym (neared-fenced (a .e .now) (a .m) (rw (k .key-of .ensures) at (t .if1 .left)) (rw (k .key-of .ensures) at (c .before .if2 .taken))))
 
-level-of-requires : tie.Need-level-of-requires
-level-of-requires c κs = search needs
-
 go-requires : tie.Need-go-requires
 go-requires c κs = search needs
 
 returns-3 : tie.Need-returns-3
 returns-3 c =
-    let v = c .before .before in
-    let u = v .before in
+    let u = c .before in
     let t = u .before .before in
     let k = t .before .before in
     let a = k .before .before .args in
-    rw (c .go .ensures, v .level-of .ensures)
-    (sym (neared-gone (a .e .now) (a .m) (rw (k .key-of .ensures) at (t .if1 .left)) (rw (k .key-of .ensures) at (u .if2 .left))))
+    rw (c .go .ensures) (sym (neared-gone (a .e .now) (a .m) (rw (k .key-of .ensures) at (t .if1 .left)) (rw (k .key-of .ensures) at (u .if2 .left))))
 
 pub near-spec : {M : Type 1} → statement M
 near-spec =
@@ -53,6 +48,5 @@ near-spec =
     returns
     stand-requires
     returns-2
-    level-of-requires
     go-requires
     returns-3)

@@ -1,11 +1,11 @@
 -- `scan_sweep::cross`: past hi nothing is left; else the survey tells what covers the docket, and the sweep goes on by that.
 use mathlib.Core.Path.{_≡_, sym, subst}
-use Prim.Native.Nat.{_≤_}
-use lib.Dec.{ltb}
+use Prim.Native.Nat.{_<_, _≤_}
+use Rattle.tables.specs.Words.{Fits32}
 use Rattle.scan_fences.specs.Fences.{View}
-use Rattle.scan_step.specs.Sweeps.{next-key, next-level, Sweeping, gone}
+use Rattle.scan_step.specs.Sweeps.{next-key, Sweeping, gone}
 use Rattle.scan_sweep.specs.Sweeps.{viewing, view-of, crossed}
-use Rattle.scan_sweep.proofs.Crossing.{crossed-none, crossed-gone, viewing-sweeping}
+use Rattle.scan_sweep.proofs.Crossing.{crossed-none, crossed-gone, viewing-past, viewing-sweeping}
 use borrow.Author.Needs.{needs}
 use Rattle.scan_sweep.proofs.cross.Statement.{statement}
 use Rattle.scan_sweep.proofs.cross.Tie as tie
@@ -47,28 +47,23 @@ slice-aggregate-survey c = search needs
 survey-requires : tie.Need-survey-requires
 survey-requires c κs = search needs
 
-level-of-requires : tie.Need-level-of-requires
-level-of-requires c κs = search needs
-
 go-requires : tie.Need-go-requires
 go-requires c κs =
-    let surveyed = c .before .before .before in
+    let surveyed = c .before in
     let le = not-past (within surveyed) in
     let k = keyed (within surveyed) in
-    let a = entry k in (
-      subst (λ (w : View). Sweeping (a .args .e .now) (viewing (a .args .m) w)) (sym (view-is surveyed))
-          (viewing-sweeping (λ i. k .before .shared-slice-known .given i .fits) (a .pre) le),
-      le,
-    )
+    let a = entry k in
+    let words : Fits32 (a .args .e .now) = λ i. k .before .shared-slice-known .given i .fits in
+    let m = a .args .m in
+    subst (λ (w : View). Sweeping (a .args .e .now) (viewing m w) × ((next-key m ≤ m .hi) × (next-key m < w .cover .fence))) (sym (view-is surveyed))
+    (viewing-sweeping words (a .pre) le, (le, viewing-past words (a .pre) le))
 
 returns-2 : tie.Need-returns-2
 returns-2 c =
-    let levelled = c .before .before in
-    let surveyed = levelled .before .before in
+    let surveyed = c .before .before in
     let a = entry (keyed (within surveyed)) .args in
-    rw (c .go .ensures, levelled .level-of .ensures)
-    (subst (λ (w : View). gone (a .e .now) (viewing (a .m) w) (ltb (w .cover .level) (next-level (a .m))) ≡ crossed (a .e .now) (a .m))
-    (sym (view-is surveyed))
+    rw (c .go .ensures)
+    (subst (λ (w : View). gone (a .e .now) (viewing (a .m) w) ≡ crossed (a .e .now) (a .m)) (sym (view-is surveyed))
     (sym (crossed-gone (a .e .now) (a .m) (not-past (within surveyed)))))
 
 pub cross-spec : {M : Type 1} → statement M
@@ -80,6 +75,5 @@ cross-spec =
     returns
     slice-aggregate-survey
     survey-requires
-    level-of-requires
     go-requires
     returns-2)

@@ -1,11 +1,11 @@
 -- The loop keeps: with the levels still to come the heads and the ranges are those of all.
 use mathlib.Core.List.{List}
 use mathlib.Core.Path.{_≡_, refl, sym, ap, _∙_}
-use Prim.Native.Nat.{ℕ, _+_, _-_, _≤_}
+use Prim.Native.Nat.{ℕ, _+_, _-_, _*_, _<_, _≤_}
 use native.Mathlib.Numerals.{add-one}
 use native.Mathlib.Omega.{arith}
 use borrow.Author.Needs.{needs}
-use lib.ListN.{length, set, length-set}
+use lib.ListN.{length, length-set}
 use Rattle.lists.specs.Lists.{iterate}
 use Rattle.lists.proofs.Loops.{iterate-end, iterate-next}
 use Rattle.tables.specs.Rows.{settings-of, level-row}
@@ -13,25 +13,28 @@ use Rattle.tables.specs.Sound.{chain-from}
 use Rattle.table_levels.specs.declared.Level.{Level}
 use Rattle.table_levels.specs.Levels.{level-at}
 use Rattle.chain_cover.specs.Skips.{first-slot, beginning}
+use Rattle.chain_cover.specs.Fronts.{front-at}
 use Rattle.scan_heads.specs.declared.Heads.{Heads}
 use Rattle.scan_heads.specs.Heads.{head-at, pushed}
-use Rattle.scan_sweep.specs.Sweeps.{front-at, opened-heads, opened-ranges, opened}
+use Rattle.scan_fences.specs.Fences.{put-front}
+use Rattle.scan_fences.proofs.Levels.{put-length}
+use Rattle.scan_sweep.specs.Sweeps.{first-from, opened-heads, opened-ranges, opened}
 use Rattle.scan_sweep.proofs.Opening.{front-is-ordered, front-small}
 use Rattle.scan_sweep.proofs.open.Statement.{statement}
 use Rattle.scan_sweep.proofs.open.Tie as tie
 
 -- What a turn does to the heads, and what it does to the ranges.
 abbrev push-level : List ℕ → List ℕ → ℕ → ℕ → Heads → Heads
-push-level e l lo i heads = pushed heads (head-at e i (front-at e l lo i))
+push-level e l lo i heads = pushed heads (head-at e i (first-from e l lo i))
 
-abbrev range-level : List ℕ → ℕ → List ℕ → List ℕ
-range-level l i ranges = set ranges i (level-row l i .ranges)
+abbrev range-level : List ℕ → List ℕ → ℕ → List ℕ → List ℕ
+range-level e l i ranges = put-front ranges i (front-at e (level-row l i .ranges))
 
 abbrev Inv-loop : tie.InvT-loop
 Inv-loop e l lo hi levels heads₀ ranges₀ i₀ heads ranges i =
-    (i ≤ levels) × (levels ≡ settings-of l .deepest + 1) × (length ranges ≡ 7)
+    (i ≤ levels) × (levels ≡ settings-of l .deepest + 1) × (length ranges ≡ 14)
     × (iterate (push-level e l lo) i (levels - i) heads ≡ opened-heads e l lo levels)
-    × (iterate (range-level l) i (levels - i) ranges ≡ opened-ranges l levels)
+    × (iterate (range-level e l) i (levels - i) ranges ≡ opened-ranges e l levels)
 
 abbrev μ-loop : tie.MeasureT-loop
 μ-loop e l lo hi levels heads₀ ranges₀ i₀ heads ranges i = levels - i
@@ -43,8 +46,8 @@ entry c = c .before .before .before .before .before
 abbrev row-read : tie.After-push Inv-loop μ-loop → tie.After-level-at Inv-loop μ-loop
 row-read c = c .before .before .before
 
-abbrev tested : tie.After-push Inv-loop μ-loop → tie.In-loop Inv-loop μ-loop
-tested c = row-read c .before
+abbrev tested : tie.After-front-at Inv-loop μ-loop → tie.In-loop Inv-loop μ-loop
+tested c = row-read (c .before) .before
 
 -- The level of a turn is one of the store's.
 level-in : (c : tie.In-loop Inv-loop μ-loop) → c .before .loop .i ≤ settings-of (entry (c .before) .args .l .now) .deepest
@@ -54,7 +57,7 @@ level-in c = omega (arith, c .before .loop .inv .1, c .loop-test .taken)
 abbrev front : tie.After-seek Inv-loop μ-loop → ℕ
 front c =
     let turn = c .before .before .before in
-    front-at (entry turn .args .e .now) (entry turn .args .l .now) (entry turn .args .lo) (turn .loop .i)
+    first-from (entry turn .args .e .now) (entry turn .args .l .now) (entry turn .args .lo) (turn .loop .i)
 
 found : (c : tie.After-seek Inv-loop μ-loop) → c .seek .result ≡ front c
 found c =
@@ -88,12 +91,13 @@ seek-requires c κs =
 
 -- The sweep that is returned.
 opens : (e l : List ℕ) (lo hi levels : ℕ) (heads : Heads) (ranges : List ℕ) → levels ≡ settings-of l .deepest + 1
-    → heads ≡ opened-heads e l lo levels → ranges ≡ opened-ranges l levels
+    → heads ≡ opened-heads e l lo levels → ranges ≡ opened-ranges e l levels
     → record {
       heads = heads;
       ranges = ranges;
       levels = levels;
       cover = 0;
+      date = 0;
       fence = 0;
       from = lo;
       hi = hi;
@@ -118,11 +122,35 @@ head-requires c κs =
 push-requires : tie.Need-push-requires Inv-loop μ-loop
 push-requires c κs = search needs
 
+front-at-requires : tie.Need-front-at-requires Inv-loop μ-loop
+front-at-requires c κs =
+    let read = row-read c in
+    let turn = read .before .before in
+    rw (ap (λ (v : Level). v .ranges) (read .level-at .ensures)) (entry turn .pre .ranges (turn .loop .i) (level-in (read .before)))
+
+-- There is room for the level's two slots.
+room : (c : tie.In-loop Inv-loop μ-loop) → 2 * c .before .loop .i + 1 < 14
+room c = omega (arith, level-in c, entry (c .before) .pre .shallow)
+
+mul-at : tie.Need-mul-at Inv-loop μ-loop
+mul-at c = omega (arith, room (tested c))
+
 mul-ranges : tie.Need-mul-ranges Inv-loop μ-loop
-mul-ranges c = omega (arith, level-in (tested c), entry (tested c .before) .pre .shallow)
+mul-ranges c = omega (arith, room (tested c))
 
 array-write-ranges : tie.Need-array-write-ranges Inv-loop μ-loop
-array-write-ranges c = omega (arith, level-in (tested c), tested c .before .loop .inv .2, entry (tested c .before) .pre .shallow)
+array-write-ranges c = omega (arith, room (tested c), tested c .before .loop .inv .2)
+
+add-ranges : tie.Need-add-ranges Inv-loop μ-loop
+add-ranges c = omega (arith, room (tested c))
+
+mul-ranges-2 : tie.Need-mul-ranges-2 Inv-loop μ-loop
+mul-ranges-2 c = omega (arith, room (tested c))
+
+array-write-ranges-2 : tie.Need-array-write-ranges-2 Inv-loop μ-loop
+array-write-ranges-2 c =
+    let l = tested c .before .loop in
+    omega (arith, room (tested c), l .inv .2, length-set (l .ranges) (2 * l .i) (c .front-at .result .first))
 
 add-i : tie.Need-add-i Inv-loop μ-loop
 add-i c = omega (arith, tested c .loop-test .taken)
@@ -140,13 +168,15 @@ loop-again c =
     let i = turn .loop .i in
     let heads = turn .loop .heads in
     let ranges = turn .loop .ranges in
-    let pushed-is = c .push .ensures ∙ ap (pushed heads) (c .before .head .ensures ∙ ap (head-at e i) (found (c .before .before))) in
-    let ranges-is = ap (λ (v : Level). set ranges i (v .ranges)) (row-read c .level-at .ensures) in (
+    let push = c .before in
+    let pushed-is = push .push .ensures ∙ ap (pushed heads) (push .before .head .ensures ∙ ap (head-at e i) (found (push .before .before))) in
+    let front-is = c .front-at .ensures ∙ ap (λ (v : Level). front-at e (v .ranges)) (row-read push .level-at .ensures) in
+    let ranges-is = ap (put-front ranges i) front-is in (
       omega (arith, more),
       turn .loop .inv .1,
-      length-set ranges i _ ∙ turn .loop .inv .2,
+      put-length ranges i (c .front-at .result) ∙ turn .loop .inv .2,
       rw pushed-is (sym (iterate-next (push-level e l lo) _ i heads _ more (add-one _)) ∙ turn .loop .inv .3),
-      rw ranges-is (sym (iterate-next (range-level l) _ i ranges _ more (add-one _)) ∙ turn .loop .inv .4),
+      rw ranges-is (sym (iterate-next (range-level e l) _ i ranges _ more (add-one _)) ∙ turn .loop .inv .4),
     )
 
 returns : tie.Need-returns Inv-loop μ-loop
@@ -159,7 +189,7 @@ returns c =
     let heads = turn .loop .heads in
     let ranges = turn .loop .ranges in
     let heads-are = sym (iterate-end (push-level e l lo) _ i heads (c .loop-test .left)) ∙ turn .loop .inv .3 in
-    let ranges-are = sym (iterate-end (range-level l) _ i ranges (c .loop-test .left)) ∙ turn .loop .inv .4 in
+    let ranges-are = sym (iterate-end (range-level e l) _ i ranges (c .loop-test .left)) ∙ turn .loop .inv .4 in
     opens e l lo (entry turn .args .hi) _ heads ranges (turn .loop .inv .1) heads-are ranges-are
 
 pub open-spec : {M : Type 1} → statement M
@@ -176,8 +206,13 @@ open-spec =
     seek-requires
     head-requires
     push-requires
+    front-at-requires
+    mul-at
     mul-ranges
     array-write-ranges
+    add-ranges
+    mul-ranges-2
+    array-write-ranges-2
     add-i
     loop-less
     loop-again

@@ -1,0 +1,36 @@
+-- What the latest date before the fence tells of the first record, and what the levels above it tell where they are asked.
+use mathlib.Core.Path.{_≡_, sym, ap, _∙_}
+use mathlib.Core.Bool.{true, false}
+use mathlib.Core.List.{List}
+use Prim.Native.Nat.{ℕ, _<_, _≤_}
+use native.Mathlib.Omega.{arith}
+use borrow.Author.Tests.{le-leb, lt-leb}
+use lib.Dec.{leb}
+use Rattle.tables.specs.Words.{Fits32}
+use Rattle.scan_heads.proofs.Passing.{level-inside}
+use Rattle.scan_fences.specs.Fences.{Ready, Covering, View, surveyed}
+use Rattle.scan_fences.proofs.Surveys.{viewed}
+use Rattle.scan_step.specs.declared.Sweep.{Sweep}
+use Rattle.scan_step.specs.Sweeps.{next-key, next-level, date-above, Sweeping}
+
+module _ {e : List ℕ} {m : Sweep} (s : Sweeping e m) (le : next-key m ≤ m .hi) where
+  inside : next-level m < m .levels
+  inside = level-inside (s .points) (omega (arith, s .last))
+
+  pub above-ready : Ready e (m .ranges) (next-level m)
+  above-ready = record { room = omega (arith, inside, s .ranges .room); order = λ i lt. s .ranges .order i (omega (arith, inside)) }
+
+  pub above-is : Fits32 e → {v : View} → v ≡ surveyed e (next-key m) (next-level m) (m .ranges) → v .cover .date ≡ date-above e m
+  above-is words is =
+      ap (λ (w : View). w .cover .date) is
+      ∙ sym (viewed e words (next-key m) (next-level m) (omega (arith, s .last)) (m .ranges) above-ready .exact)
+
+  module _ (before : next-key m < m .fence) (t : ℕ) where
+    covering : Covering e (m .ranges) (m .date) (m .cover) (next-key m) (next-level m)
+    covering = s .covers (next-key m) (next-level m) (omega arith) before (omega (arith, inside))
+
+    pub later-shown : m .date < t → leb t (date-above e m) ≡ false
+    later-shown lt = lt-leb t (date-above e m) (omega (arith, covering .upto))
+
+    pub earlier-hidden : t ≤ m .date → m .cover < next-level m → leb t (date-above e m) ≡ true
+    earlier-hidden upto above = le-leb t (date-above e m) (omega (arith, covering .is above))
