@@ -11,7 +11,7 @@ ghost use Rattle.check_refusal.specs.Dockets.{bad-dockets};
 ghost use Rattle.call_op.specs.Ops.{op-of};
 ghost use Rattle.call_op.specs.Works.{work-of};
 
-// What a timed call does: a put of a docket and its tally, a delete of a docket, a delete of the dockets from lo to hi put up to a date, a flush or a tick.
+// What a timed call does: a put of a docket and its tally, a delete of a docket, a delete of the dockets from lo to hi by a date, a flush or a tick.
 pub enum Op {
     Put(u32, u32),
     Delete(u32),

@@ -22,14 +22,14 @@ pub fn delete(entries: &mut [u32], levels: &mut [u32], clock: u32, docket: u32) 
     call(entries, levels, clock, Op::Delete(docket))
 }
 
-// Deletes the dockets from lo to hi, whenever put: the date is the clock.
+// Deletes the dockets from lo to hi; its clock is its date.
 pub fn delete_range(entries: &mut [u32], levels: &mut [u32], clock: u32, lo: u32, hi: u32) -> Answer
     ensures { λ r. ⌜ called (now (entries .exit)) (now (levels .exit)) r ≡ call-tables (lent (now (entries .entry)) (now (levels .entry))) (record { clock = clock; op = written (delete-range lo hi clock) }) ⌝ }
 {
     call(entries, levels, clock, Op::DeleteRange(lo, hi, clock))
 }
 
-// Deletes the dockets from lo to hi that were put up to a date.
+// Deletes the dockets from lo to hi whose stamps are at most a date.
 pub fn delete_range_dated(
     entries: &mut [u32],
     levels: &mut [u32],

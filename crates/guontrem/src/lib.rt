@@ -78,7 +78,7 @@ pub extern "C" fn guontrem_delete(
     call_packed(entries, levels, clock, Op::Delete(docket))
 }
 
-// Deletes the dockets from lo to hi.
+// Deletes the dockets from lo to hi; its clock is its date.
 #[no_mangle]
 pub extern "C" fn guontrem_delete_range(
     entries: &mut [u32],
@@ -87,9 +87,24 @@ pub extern "C" fn guontrem_delete_range(
     lo: u32,
     hi: u32,
 ) -> u64
-    ensures { λ r. ⌜ record { tables = lent (now (entries .exit)) (now (levels .exit)); number = r } ≡ packed-call (call-tables (lent (now (entries .entry)) (now (levels .entry))) (record { clock = clock; op = written (delete-range lo hi) })) ⌝ }
+    ensures { λ r. ⌜ record { tables = lent (now (entries .exit)) (now (levels .exit)); number = r } ≡ packed-call (call-tables (lent (now (entries .entry)) (now (levels .entry))) (record { clock = clock; op = written (delete-range lo hi clock) })) ⌝ }
 {
-    call_packed(entries, levels, clock, Op::DeleteRange(lo, hi))
+    call_packed(entries, levels, clock, Op::DeleteRange(lo, hi, clock))
+}
+
+// Deletes the dockets from lo to hi whose stamps are at most a date.
+#[no_mangle]
+pub extern "C" fn guontrem_delete_range_dated(
+    entries: &mut [u32],
+    levels: &mut [u32],
+    clock: u32,
+    lo: u32,
+    hi: u32,
+    date: u32,
+) -> u64
+    ensures { λ r. ⌜ record { tables = lent (now (entries .exit)) (now (levels .exit)); number = r } ≡ packed-call (call-tables (lent (now (entries .entry)) (now (levels .entry))) (record { clock = clock; op = written (delete-range lo hi date) })) ⌝ }
+{
+    call_packed(entries, levels, clock, Op::DeleteRange(lo, hi, date))
 }
 
 // Merges the buffer, full or not, and does the pass.
