@@ -93,7 +93,7 @@ module _ {S A : Type 0} where
       cond (still-due t (p .state)) (refused 8 (timed t (p .state)))
       (record { state = timed t (p .state); answer = record { refusal = 0; merges = p .merges; purged = purged } })
 
-  -- The refusal's number, "by where they are found": the docket, the clock, the free chain. Refusal 8 never comes.
+  -- The refusal's number, "by where they are found": the docket, the clock, the date, the free chain. Refusal 8 never comes.
   abbrev pub refusal-number : State S A → Call A → ℕ
   refusal-number s c =
       let early = early-refusal (s .clock) c in
