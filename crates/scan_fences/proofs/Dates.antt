@@ -103,9 +103,11 @@ module _ (e : List ℕ) where
           (λ t h. (omega arith, omega (arith, latest-past j (s ∷ ss) (ascend-past e words j least s ss h a))))
           (λ t h.
           let rest = surveyed-upto least ss (ascend-rest e least s ss a) (met e k s m) h in
-          let later = met-later s m in
-          (omega (arith, later .0, rest .0), latest-upto j (surveyed e k ss (met e k s m) .date) s ss (rest .1)
-          (λ is. omega (arith, later .1 (omega (arith, over-bounds (lo-of e s) (hi-of e s) j is .1)), rest .0))))
+          let later = met-later s m in (
+            omega (arith, later .0, rest .0),
+            latest-upto j (surveyed e k ss (met e k s m) .date) s ss (rest .1)
+                (λ is. omega (arith, later .1 (omega (arith, over-bounds (lo-of e s) (hi-of e s) j is .1)), rest .0)),
+          ))
 
   -- The range with a date has it over each of its dockets.
   dates-from : (d : ℕ → ℕ) (ss : List ℕ) → ((j : ℕ) → slots-latest e ss j ≤ d j)

@@ -7,8 +7,10 @@ use native.Mathlib.Omega.{arith}
 use native.Mathlib.Decide.{ℕ-discrete}
 use lib.ListN.{length, getD, set, length-set}
 use lib.Seq.{getD-set-same, getD-set-other}
+use Rattle.tables.specs.Slots.{entry-length}
 use Rattle.chain_cover.specs.declared.Front.{Front}
 use Rattle.chain_cover.specs.Fronts.{FrontOrdered}
+use Rattle.chain_cover.proofs.Chains.{go-on}
 use Rattle.scan_fences.specs.Fences.{front-in, put-front, Ready, slots-latest, levels-latest}
 
 -- A front is found where it was put, and the others stay.
@@ -35,11 +37,27 @@ module _ (ranges : List ℕ) (i : ℕ) (f : Front) where
 
 -- One of n levels has another front.
 pub put-ready : {e ranges : List ℕ} {n : ℕ} → Ready e ranges n → (i : ℕ) (f : Front) → i < n → FrontOrdered e f → Ready e (put-front ranges i f) n
-put-ready {e} {ranges} {n} r i f lt o = record { room = rw (put-length ranges i f) (r .room); order = λ m h. go m h (ℕ-discrete m i) }
+put-ready {e} {ranges} {n} r i f lt o = record { size = r .size; few = r .few; room = rw (put-length ranges i f) (r .room); order = λ m h. go m h (ℕ-discrete m i) }
   where
     go : (m : ℕ) → m < n → Dec (m ≡ i) → FrontOrdered e (front-in (put-front ranges i f) m)
     go m h (yes q) = rw (q, put-same ranges i f (omega (arith, r .room))) o
     go m h (no q) = rw (put-other ranges i f m q) (r .order m h)
+
+-- The slots of a front are those of the table.
+module _ {e : List ℕ} {f : Front} (o : FrontOrdered e f) (size : length e ≤ entry-length 65535) where
+  pub first-low : f .first ≤ 65535
+  first-low = go (ℕ-discrete (f .first) 0)
+    where
+      go : Dec (f .first ≡ 0) → f .first ≤ 65535
+      go (yes z) = omega arith
+      go (no some) = omega (arith, o .within some)
+
+  pub behind-low : f .behind ≤ 65535
+  behind-low = go (ℕ-discrete (f .behind) 0)
+    where
+      go : Dec (f .behind ≡ 0) → f .behind ≤ 65535
+      go (yes z) = omega arith
+      go (no some) = omega (arith, go-on e (f .behind) (o .rest) some .within)
 
 -- The latest date of levels i to before i + n.
 module _ (e : List ℕ) (r : ℕ → List ℕ) (k : ℕ) where

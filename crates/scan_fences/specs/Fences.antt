@@ -7,6 +7,7 @@ use lib.Dec.{ltb}
 use lib.ListN.{length, getD, set}
 use Rattle.lists.specs.Lists.{iterate}
 use Rattle.model.specs.Lookup.{latest}
+use Rattle.tables.specs.Slots.{entry-length}
 use Rattle.tables.specs.Placed.{read-range}
 use Rattle.chain_cover.specs.declared.Front.{Front}
 use Rattle.chain_cover.specs.declared.Latest.{Latest}
@@ -26,8 +27,10 @@ put-front ranges i f = set (set ranges (2 * i) (f .first)) (2 * i + 1) (f .behin
 abbrev pub ranges-in : List ℕ → List ℕ → ℕ → List ℕ
 ranges-in e ranges i = front-slots e (front-in ranges i)
 
--- There is room for n levels, and each has its ranges in order.
+-- The table is no larger than it may be, there are no more levels than there may be and there is room for them, and each has its ranges in order.
 pub record Ready (e ranges : List ℕ) (n : ℕ) : Type 0 where
+  pub size : length e ≤ entry-length 65535
+  pub few : n ≤ 7
   pub room : 2 * n ≤ length ranges
   pub order : (i : ℕ) → i < n → FrontOrdered e (front-in ranges i)
 

@@ -9,13 +9,14 @@ ghost use Rattle.scan_fences.specs.Fences.{Ready, unseen, sees, surveyed
 
 // Past the last docket, and that.
 const NO_FENCE: u32 = 65536;
+
 const LAST_DOCKET: u32 = 65535;
 
 // The latest date of the ranges over the dockets before the fence, from the one asked for on, and how many levels from 0 on it takes to
 // have it. Both are 0 where no range is over them.
 pub struct Cover {
     pub date: u32,
-    pub depth: usize,
+    pub depth: u32,
     pub fence: u32,
 }
 
@@ -23,13 +24,13 @@ pub struct Cover {
 // begins next.
 struct Seen {
     date: u32,
-    depth: usize,
+    depth: u32,
     last: u32,
     next: u32,
 }
 
 // Passes ranges that end before the docket, in each level, and asks it for the docket. The front of level i stands at 2 × i and behind it.
-pub fn survey(e: &[u32], ranges: &mut [usize], levels: usize, docket: u32) -> Cover
+pub fn survey(e: &[u32], ranges: &mut [u32], levels: usize, docket: u32) -> Cover
     requires { ⌜ Ready (now e) (now ranges) levels ⌝ }
     requires { ⌜ docket ≤ 65535 ⌝ }
     ensures { λ r. ⌜ record { ranges = now (ranges .exit); cover = r } ≡ surveyed (now (e .entry)) docket levels (now (ranges .entry)) ⌝ }
@@ -43,18 +44,18 @@ pub fn survey(e: &[u32], ranges: &mut [usize], levels: usize, docket: u32) -> Co
     let mut i = 0;
     while i < levels {
         let at = 2 * i;
-        let first = ranges[at];
-        let behind = ranges[at + 1];
+        let first = ranges[at] as usize;
+        let behind = ranges[at + 1] as usize;
         let before = Front {
             first: first,
             behind: behind,
         };
         let f = advance(e, before, docket);
-        ranges[at] = f.first;
-        ranges[at + 1] = f.behind;
+        ranges[at] = f.first as u32;
+        ranges[at + 1] = f.behind as u32;
         let l = front_latest(e, f, docket);
         i += 1;
-        seen = see(seen, i, l);
+        seen = see(seen, i as u32, l);
     }
     Cover {
         date: seen.date,
@@ -64,7 +65,7 @@ pub fn survey(e: &[u32], ranges: &mut [usize], levels: usize, docket: u32) -> Co
 }
 
 // One level more, so many with it: a later date than those above takes their place.
-fn see(s: Seen, depth: usize, l: Latest) -> Seen
+fn see(s: Seen, depth: u32, l: Latest) -> Seen
     ensures { λ r. ⌜ r ≡ sees s depth l ⌝ }
 {
     let next = lesser(s.next, l.next);

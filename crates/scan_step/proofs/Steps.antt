@@ -3,12 +3,12 @@ use mathlib.Core.Path.{_≡_, refl, sym, ap, _∙_, subst}
 use mathlib.Core.Logic.{_≢_}
 use mathlib.Core.Bool.{cond}
 use mathlib.Core.List.{List}
-use Prim.Native.Nat.{ℕ, suc, _+_, _<_, _≤_, max}
+use Prim.Native.Nat.{ℕ, suc, _+_, _*_, _<_, _≤_, max}
 use native.Mathlib.Omega.{arith}
-use borrow.Author.Tests.{ne-eqb, eqb-true, eqb-false, ltb-true, ltb-false, leb-true, leb-false}
+use borrow.Author.Tests.{ne-eqb, eqb-true, eqb-false, ltb-true, ltb-false}
 use lib.Dec.{eqb, ltb, leb}
-use Rattle.lists.proofs.Bools.{by-cases, cond-elim, cond-same}
-use Rattle.model.specs.Lookup.{Found, absent, judged, add-row, lookup}
+use Rattle.lists.proofs.Bools.{by-cases, cond-elim}
+use Rattle.model.specs.Lookup.{absent, judged, add-row, lookup}
 use Rattle.tables.specs.Words.{Fits32}
 use Rattle.tables.specs.Slots.{next-of, kind-of, lo-of, stamp-of}
 use Rattle.tables.specs.Placed.{read-point}
@@ -18,14 +18,14 @@ use Rattle.scan_heads.proofs.Packs.{key-on}
 use Rattle.scan_heads.proofs.Passing.{points-least, points-later, slot-key, slot-on, level-inside, passed-fits, passed-later, passed-fewer, point-first, point-passed}
 use Rattle.scan_fences.specs.Fences.{ranges-in}
 use Rattle.scan_step.specs.declared.Sweep.{Sweep}
-use Rattle.scan_step.specs.Sweeps.{to-come, next-key, next-level, date-above, Sweeping, told, moved, gone, neared, rest, listed, Stepped}
-use Rattle.scan_step.proofs.Branches.{gone-before, gone-delete, gone-hidden, gone-found, neared-none, neared-fenced, neared-gone}
+use Rattle.scan_step.specs.Sweeps.{to-come, next-key, next-level, date-above, is-hidden, Sweeping, told, moved, gone, doubtful, neared, rest, listed, steps-ahead, Stepped}
+use Rattle.scan_step.proofs.Branches.{gone-before, gone-hidden, gone-delete, gone-found, undoubted, neared-stands, neared-gone}
 use Rattle.scan_step.proofs.Live.{live-same, live-none, live-pass}
 use Rattle.scan_step.proofs.Coming.{points-before, absent-all, found-at, looks-same, decides-same}
 
 -- The same to come, whether the sweep is on its way or has come to a docket.
 pub told-sweeping : {e : List ℕ} {m : Sweep} {going alive key value stamp : ℕ} → Sweeping e m → Sweeping e (told m going alive key value stamp)
-told-sweeping s = record { points = s .points; ranges = s .ranges; covers = s .covers; last = s .last }
+told-sweeping s = record { points = s .points; ranges = s .ranges; covers = s .covers; bound = s .bound; last = s .last }
 
 module _ {e : List ℕ} {m : Sweep} (words : Fits32 e) (s : Sweeping e m) where
   abbrev k : ℕ
@@ -92,18 +92,22 @@ module _ {e : List ℕ} {m : Sweep} (words : Fits32 e) (s : Sweeping e m) where
       points = passed-fits (s .points) low;
       ranges = s .ranges;
       covers = λ j n a b c. s .covers j n (omega (arith, passed-later (s .points) low words)) b c;
+      bound = s .bound;
       last = s .last;
     }
 
-    fewer : left e (passed e (m .heads)) < left e (m .heads)
-    fewer = passed-fewer (s .points) low
+    -- Whether or not the next record lies past the fence.
+    fewer : (from : ℕ) → steps-ahead e (after from) < steps-ahead e m
+    fewer from =
+        cond-elim (λ n. 2 * left e (passed e (m .heads)) + n < steps-ahead e m) (leb (m .fence) (next-key (after from))) 1 0
+        (λ t. omega (arith, passed-fewer (s .points) low)) (λ t. omega (arith, passed-fewer (s .points) low))
 
     -- A record of its docket was passed before.
     stepped-before : k < m .from → Stepped e m (after (m .from))
     stepped-before lt = record {
       sweeping = moved-sweeping (m .from);
       leads = live-same (lookup (to-come e m)) (lookup (to-come e (after 0))) (m .from) (m .hi) (λ j a. sym (passed-looks j (λ q. omega arith)));
-      fewer = λ _. fewer;
+      fewer = λ _. fewer (m .from);
     }
 
     module _ (from : m .from ≤ k) where
@@ -115,7 +119,7 @@ module _ {e : List ℕ} {m : Sweep} (words : Fits32 e) (s : Sweeping e m) where
           (live-same (lookup (to-come e m)) (lookup (to-come e (after 0))) (k + 1) (m .hi) (λ j a. sym (passed-looks j (λ q. omega arith))))
 
       stepped-on : lookup (to-come e m) k ≡ absent → Stepped e m (after (k + 1))
-      stepped-on q = record { sweeping = moved-sweeping (k + 1); leads = rest-passed ∙ rw q; fewer = λ _. fewer }
+      stepped-on q = record { sweeping = moved-sweeping (k + 1); leads = rest-passed ∙ rw q; fewer = λ _. fewer (k + 1) }
 
     -- However its docket stands, passing the first record is a step.
     pub gone-stepped : Stepped e m (gone e m)
@@ -125,47 +129,31 @@ module _ {e : List ℕ} {m : Sweep} (words : Fits32 e) (s : Sweeping e m) where
         subst (Stepped e m) (sym (gone-before e m lt)) (stepped-before lt))
         (λ t.
         let from = ltb-false k (m .from) t in
-        by-cases (eqb (kind-of e slot) 1)
-        (λ u.
-        let put = eqb-true (kind-of e slot) 1 u in
-        by-cases (leb (stamp-of e slot) (date-above e m))
-        (λ c. subst (Stepped e m) (sym (gone-hidden e m from put c)) (stepped-on from (says-here ∙ rw c)))
-        (λ c. subst (Stepped e m) (sym (gone-found e m from put c))
+        by-cases (is-hidden e m)
+        (λ c. subst (Stepped e m) (sym (gone-hidden e m from c)) (stepped-on from (says-here ∙ rw c)))
+        (λ c. by-cases (eqb (kind-of e slot) 1)
+        (λ u. subst (Stepped e m) (sym (gone-found e m from c (eqb-true (kind-of e slot) 1 u)))
         (record {
           sweeping = told-sweeping (moved-sweeping (k + 1));
           leads = rest-passed from ∙ rw (says-here, c, u);
           fewer = λ g. absurd (g refl);
-        })))
-        (λ u. subst (Stepped e m) (sym (gone-delete e m from (eqb-false (kind-of e slot) 1 u)))
-        (stepped-on from (says-here ∙ rw (u, cond-same {X = Found ℕ} (leb (stamp-of e slot) (date-above e m)) absent)))))
+        }))
+        (λ u. subst (Stepped e m) (sym (gone-delete e m from c (eqb-false (kind-of e slot) 1 u))) (stepped-on from (says-here ∙ rw (c, u))))))
 
-  -- A step before the fence; at the fence the sweep is still where it was.
-  pub near-stepped : k < m .fence → Stepped e m (neared e m)
-  near-stepped lt = by-cases (ltb (m .hi) k)
-      (λ t.
-      let past = ltb-true (m .hi) k t in
-      subst (Stepped e m) (sym (neared-none e m past)) (stepped-none past))
-      (λ t.
-      let le = ltb-false (m .hi) k t in
-      subst (Stepped e m) (sym (neared-gone e m le lt)) (gone-stepped le))
-
+  -- A record that is not doubtful is passed, and before one that is the sweep is still where it was.
   abbrev Leads : Sweep → Type 0
   Leads r = Sweeping e r × (rest e m ≡ listed e r)
 
   pub near-leads : Leads (neared e m)
-  near-leads = by-cases (leb (m .fence) k)
-      (λ t. by-cases (ltb (m .hi) k)
-      (λ u.
-      let past = ltb-true (m .hi) k u in
-      subst Leads (sym (neared-none e m past)) (told-sweeping s, stepped-none past .leads))
-      (λ u. subst Leads (sym (neared-fenced e m (ltb-false (m .hi) k u) (leb-true (m .fence) k t))) (told-sweeping s, refl)))
+  near-leads = by-cases (doubtful e m)
+      (λ t. subst Leads (sym (neared-stands e m t)) (told-sweeping s, refl))
       (λ t.
-      let st = near-stepped (leb-false (m .fence) k t) in
-      (st .sweeping, st .leads))
+      let st = gone-stepped (omega (arith, undoubted e m t .0, s .bound)) in
+      subst Leads (sym (neared-gone e m t)) (st .sweeping, st .leads))
 
 -- How many more steps there may be.
 abbrev pub steps-left : List ℕ → Sweep → ℕ
-steps-left e m = cond (eqb (m .going) 0) 0 (suc (left e (m .heads)))
+steps-left e m = cond (eqb (m .going) 0) 0 (suc (steps-ahead e m))
 
 module _ {e : List ℕ} {m r : Sweep} (st : Stepped e m r) (goes : m .going ≢ 0) where
   pub listed-same : listed e r ≡ listed e m
@@ -174,5 +162,5 @@ module _ {e : List ℕ} {m r : Sweep} (st : Stepped e m r) (goes : m .going ≢ 
   pub fewer-steps : steps-left e r < steps-left e m
   fewer-steps =
       rw (ne-eqb (m .going) 0 goes)
-      (cond-elim (λ n. n < suc (left e (m .heads))) (eqb (r .going) 0) 0 (suc (left e (r .heads)))
+      (cond-elim (λ n. n < suc (steps-ahead e m)) (eqb (r .going) 0) 0 (suc (steps-ahead e r))
       (λ g. omega arith) (λ g. omega (arith, st .fewer (eqb-false (r .going) 0 g))))

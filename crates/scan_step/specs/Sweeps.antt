@@ -3,7 +3,7 @@ use mathlib.Core.Path.{_≡_}
 use mathlib.Core.Logic.{_≢_}
 use mathlib.Core.Bool.{Bool, cond, _||_, not}
 use mathlib.Core.List.{List, [], _∷_, map}
-use Prim.Native.Nat.{ℕ, zero, suc, _+_, _<_, _≤_}
+use Prim.Native.Nat.{ℕ, zero, suc, _+_, _*_, _<_, _≤_}
 use lib.Dec.{eqb, leb, ltb}
 use Rattle.model.specs.Lookup.{Row, lookup, live}
 use Rattle.model.specs.Records.{Level}
@@ -39,11 +39,17 @@ next-level m = level-of (m .heads .first)
 abbrev pub date-above : List ℕ → Sweep → ℕ
 date-above e m = levels-latest e (ranges-in e (m .ranges)) (next-key m) (next-level m) 0
 
--- The heads are those of the levels, the ranges can be followed, and before the fence the date is the latest over a docket to come, from the cover on.
+-- Whether that covers the record: its docket is absent.
+abbrev pub is-hidden : List ℕ → Sweep → Bool
+is-hidden e m = leb (stamp-of e (m .heads .slot)) (date-above e m)
+
+-- The heads are those of the levels, the ranges can be followed, the fence lies no farther than past hi, and before it the date is the latest over a docket to come
+-- of as many levels as it takes.
 pub record Sweeping (e : List ℕ) (m : Sweep) : Type 0 where
   pub points : Fits e (m .levels) (m .heads)
   pub ranges : Ready e (m .ranges) (m .levels)
   pub covers : (j n : ℕ) → next-key m ≤ j → j < m .fence → n ≤ m .levels → Covering e (m .ranges) (m .date) (m .cover) j n
+  pub bound : m .fence ≤ m .hi + 1
   pub last : m .hi ≤ 65535
 
 -- The same to come; the sweep is on its way, or has come to a live docket or to none.
@@ -94,13 +100,14 @@ gone e m =
     let heads = passed e (m .heads) in
     let r = moved m heads (k + 1) in
     cond (ltb k (m .from)) (moved m heads (m .from))
-    (cond (not (eqb (kind-of e s) 1) || leb (stamp-of e s) (date-above e m)) r (told r 0 1 k (tally-of e s) (stamp-of e s)))
+    (cond (is-hidden e m || not (eqb (kind-of e s) 1)) r (told r 0 1 k (tally-of e s) (stamp-of e s)))
 
--- Nothing is left up to hi, or the fence is reached, or the first record is passed.
+-- The fence is reached, or the latest date is no earlier than the record's stamp; or else no level hides the record, and it is passed.
+abbrev pub doubtful : List ℕ → Sweep → Bool
+doubtful e m = leb (m .fence) (next-key m) || leb (stamp-of e (m .heads .slot)) (m .date)
+
 abbrev pub neared : List ℕ → Sweep → Sweep
-neared e m =
-    cond (ltb (m .hi) (next-key m)) (told m 0 0 (m .key) (m .value) (m .stamp))
-    (cond (leb (m .fence) (next-key m)) (standing m 1) (gone e m))
+neared e m = cond (doubtful e m) (standing m 1) (gone e m)
 
 -- The rows of the live dockets that are still to come, up to hi.
 abbrev pub rest : List ℕ → Sweep → List (Row ℕ)
@@ -121,8 +128,12 @@ rows-from e m = cond (is-live m) (row-found m ∷ rest e m) []
 abbrev pub listed : List ℕ → Sweep → List (Row ℕ)
 listed e m = cond (eqb (m .going) 0) (rows-from e m) (rest e m)
 
--- A step passes a record, or finds that nothing is left up to hi.
+-- At most two steps for each record to come, and one for the fence.
+abbrev pub steps-ahead : List ℕ → Sweep → ℕ
+steps-ahead e m = 2 * left e (m .heads) + cond (leb (m .fence) (next-key m)) 1 0
+
+-- A step passes a record, moves the fence past its docket, or finds that nothing is left up to hi.
 pub record Stepped (e : List ℕ) (m r : Sweep) : Type 0 where
   pub sweeping : Sweeping e r
   pub leads : rest e m ≡ listed e r
-  pub fewer : r .going ≢ 0 → left e (r .heads) < left e (m .heads)
+  pub fewer : r .going ≢ 0 → steps-ahead e r < steps-ahead e m

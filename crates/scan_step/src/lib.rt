@@ -8,7 +8,7 @@ use table_slots::stamp_of;
 use table_slots::tally_of;
 ghost use mathlib.Core.Path.{_≡_};
 ghost use Prim.Native.Nat.{_≤_};
-ghost use Rattle.scan_step.specs.Sweeps.{next-key, is-hidden, told, standing, gone, neared, Sweeping};
+ghost use Rattle.scan_step.specs.Sweeps.{next-key, doubtful, is-hidden, standing, gone, neared, Sweeping};
 
 // How a sweep stands: it has come to a live docket, or to none.
 pub const ARRIVED: u32 = 0;
@@ -19,12 +19,12 @@ pub const SEARCHING: u32 = 1;
 // What each of some levels has next, point and ranges (two places a level); the latest date of the ranges over the dockets before the
 // fence, and how many levels it takes to have it (cover); the docket from which on, and the last up to which live ones are listed; how the
 // sweep stands (going), whether it has come to a live docket (1 or 0), and to which. No field is a bool: the gap beside it would be copied
-// byte by byte.
+// byte by byte. Slots are halves of a word: a larger state would not stay in registers in the caller's loop.
 pub struct Sweep {
     pub heads: Heads,
-    pub ranges: [usize; 14],
+    pub ranges: [u32; 14],
     pub levels: usize,
-    pub cover: usize,
+    pub cover: u32,
     pub date: u32,
     pub fence: u32,
     pub from: u32,
@@ -36,22 +36,27 @@ pub struct Sweep {
     pub stamp: u32,
 }
 
-// One record, where its docket lies before the fence and its stamp is past the latest date.
+// One record, unless it is doubtful. The fence lies no farther than past the last docket that is asked for.
 pub fn near(e: &[u32], m: Sweep) -> Sweep
     requires { ⌜ Sweeping (now e) m ⌝ }
     ensures { λ r. ⌜ r ≡ neared (now (e .entry)) m ⌝ }
 {
-    let key = key_of(m.heads.first);
-    if m.hi < key {
-        return none(m);
-    }
-    if m.fence <= key {
-        return stand(m, SEARCHING);
-    }
-    if stamp_of(e, m.heads.slot) <= m.date {
+    if is_doubtful(e, m) {
         return stand(m, SEARCHING);
     }
     go(e, m, false)
+}
+
+// Whether the first record's docket lies past the fence, or its stamp is no later than the latest date. One test of two parts: two
+// returns make the caller's loop too large to be compiled into one.
+fn is_doubtful(e: &[u32], m: Sweep) -> bool
+    requires { ⌜ Sweeping (now e) m ⌝ }
+    ensures { λ r. ⌜ r ≡ doubtful (now (e .entry)) m ⌝ }
+{
+    if m.fence <= key_of(m.heads.first) {
+        return true;
+    }
+    stamp_of(e, m.heads.slot) <= m.date
 }
 
 // The first record is passed. Its docket is live if no record of it was passed before, no level above has a range over it whose date is
@@ -84,16 +89,6 @@ pub fn go(e: &[u32], m: Sweep, hidden: bool) -> Sweep
     r.key = key;
     r.value = tally_of(e, slot);
     r.stamp = stamp_of(e, slot);
-    r
-}
-
-// No live docket is left.
-pub fn none(m: Sweep) -> Sweep
-    ensures { λ r. ⌜ r ≡ told m 0 0 (m .key) (m .value) (m .stamp) ⌝ }
-{
-    let mut r = m;
-    r.going = ARRIVED;
-    r.live = 0;
     r
 }
 

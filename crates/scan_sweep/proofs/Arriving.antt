@@ -9,9 +9,8 @@ use borrow.Author.Tests.{eq-eqb, ne-eqb, eqb-true, eqb-false}
 use lib.Dec.{eqb}
 use Rattle.tables.specs.Words.{Fits32}
 use Rattle.lists.proofs.Bools.{by-cases, cond-elim}
-use Rattle.scan_heads.specs.Heads.{left}
 use Rattle.scan_step.specs.declared.Sweep.{Sweep}
-use Rattle.scan_step.specs.Sweeps.{Sweeping, standing, neared, rest, rows-from, listed}
+use Rattle.scan_step.specs.Sweeps.{Sweeping, standing, neared, rest, rows-from, listed, steps-ahead}
 use Rattle.scan_step.proofs.Steps.{told-sweeping, near-leads, steps-left, listed-same, fewer-steps}
 use Rattle.scan_sweep.specs.Sweeps.{step-of, arrived, searched, advanced}
 use Rattle.scan_sweep.proofs.Crossing.{step-stepped}
@@ -77,9 +76,9 @@ module _ (e : List ℕ) (words : Fits32 e) where
   pub turned : (m : Sweep) → Sweeping e m → m .going ≢ 0 → arrived (steps-left e (step-of e m)) e (step-of e m) ≡ arrived (steps-left e m) e m
   turned m s goes =
       let st = step-stepped words s in
-      let fewer : steps-left e (step-of e m) < suc (left e (m .heads)) = rw (ne-eqb (m .going) 0 goes) at (fewer-steps st goes) in
-      arrived-enough (steps-left e (step-of e m)) (left e (m .heads)) (step-of e m) (st .sweeping) (omega arith) (omega (arith, fewer))
-      ∙ rw (ne-eqb (m .going) 0 goes) (sym (arrived-on (left e (m .heads)) m goes))
+      let fewer : steps-left e (step-of e m) < suc (steps-ahead e m) = rw (ne-eqb (m .going) 0 goes) at (fewer-steps st goes) in
+      arrived-enough (steps-left e (step-of e m)) (steps-ahead e m) (step-of e m) (st .sweeping) (omega arith) (omega (arith, fewer))
+      ∙ rw (ne-eqb (m .going) 0 goes) (sym (arrived-on (steps-ahead e m) m goes))
 
   pub stopped : (m : Sweep) → m .going ≡ 0 → arrived (steps-left e m) e m ≡ m
   stopped m stops = arrived-there (steps-left e m) m stops
@@ -87,13 +86,13 @@ module _ (e : List ℕ) (words : Fits32 e) where
   -- A search comes to the first row of what was to come.
   module _ {m : Sweep} (s : Sweeping e m) where
     pub searched-sweeping : Sweeping e (searched e m)
-    searched-sweeping = arrived-listed (suc (left e (m .heads))) (standing m 1) (told-sweeping s) .0
+    searched-sweeping = arrived-listed (suc (steps-ahead e m)) (standing m 1) (told-sweeping s) .0
 
     searched-ends : searched e m .going ≡ 0
-    searched-ends = arrived-ends (suc (left e (m .heads))) (standing m 1) (told-sweeping s) (omega arith)
+    searched-ends = arrived-ends (suc (steps-ahead e m)) (standing m 1) (told-sweeping s) (omega arith)
 
     pub searched-rows : rows-from e (searched e m) ≡ rest e m
-    searched-rows = rw (eq-eqb (searched e m .going) 0 searched-ends) at (arrived-listed (suc (left e (m .heads))) (standing m 1) (told-sweeping s) .1)
+    searched-rows = rw (eq-eqb (searched e m .going) 0 searched-ends) at (arrived-listed (suc (steps-ahead e m)) (standing m 1) (told-sweeping s) .1)
 
   -- So does an advance, by one step or by a search from there on.
   module _ (m r : Sweep) (s : Sweeping e r) (leads : rest e m ≡ listed e r) where

@@ -89,10 +89,13 @@ module _ {e l : List ℕ} (readable : Readable e l) (lo : ℕ) where
     opened-sweeping last = record {
       points = opened-fits e n (first-from e l lo) few heads-opened;
       ranges = record {
+        size = readable .size;
+        few = few;
         room = rw (ranges-laid .room) (omega (arith, few));
         order = λ i lt. rw (ranges-laid .there i lt) (front-at-ordered e (level-row l i .ranges) (readable .ranges i (omega arith)));
       };
       covers = λ j m a b c. absurd (omega arith);
+      bound = omega arith;
       last = last;
     }
 

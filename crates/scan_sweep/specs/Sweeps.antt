@@ -1,7 +1,7 @@
 -- How a sweep sets out, goes on and ends.
 use mathlib.Core.Bool.{cond}
 use mathlib.Core.List.{List}
-use Prim.Native.Nat.{ℕ, zero, suc, _+_}
+use Prim.Native.Nat.{ℕ, zero, suc, _+_, min}
 use lib.Dec.{eqb, leb, ltb}
 use lib.ListN.{replicate}
 use Rattle.lists.specs.Lists.{iterate}
@@ -10,10 +10,10 @@ use Rattle.tables.specs.Sound.{chain-from}
 use Rattle.chain_cover.specs.Skips.{first-slot, beginning}
 use Rattle.chain_cover.specs.Fronts.{front-at}
 use Rattle.scan_heads.specs.declared.Heads.{Heads}
-use Rattle.scan_heads.specs.Heads.{head-at, pushed, blank, left}
+use Rattle.scan_heads.specs.Heads.{head-at, pushed, blank}
 use Rattle.scan_fences.specs.Fences.{put-front, View, surveyed}
 use Rattle.scan_step.specs.declared.Sweep.{Sweep}
-use Rattle.scan_step.specs.Sweeps.{next-key, told, standing, gone, neared}
+use Rattle.scan_step.specs.Sweeps.{next-key, told, standing, gone, neared, steps-ahead}
 
 -- The first point of level i that is not before lo.
 abbrev pub first-from : List ℕ → List ℕ → ℕ → ℕ → ℕ
@@ -50,31 +50,31 @@ over = record {
   stamp = 0;
 }
 
--- The ranges were surveyed.
+-- The ranges were surveyed; the fence lies no farther than past hi.
 abbrev pub viewing : Sweep → View → Sweep
-viewing m v = record { heads = m .heads; ranges = v .ranges; levels = m .levels; cover = v .cover .level; date = v .cover .date; fence = v .cover .fence; from = m .from; hi = m .hi; going = m .going; live = m .live; key = m .key; value = m .value; stamp = m .stamp }
+viewing m v = record { heads = m .heads; ranges = v .ranges; levels = m .levels; cover = v .cover .depth; date = v .cover .date; fence = min (v .cover .fence) (m .hi + 1); from = m .from; hi = m .hi; going = 1; live = m .live; key = m .key; value = m .value; stamp = m .stamp }
 
 -- For the first record's docket.
 abbrev pub view-of : List ℕ → Sweep → View
 view-of e m = surveyed e (next-key m) (m .levels) (m .ranges)
 
--- The first record is passed, wherever its docket lies.
 abbrev pub crossed : List ℕ → Sweep → Sweep
-crossed e m =
-    cond (ltb (m .hi) (next-key m)) (told m 0 0 (m .key) (m .value) (m .stamp))
-    (gone e (viewing m (view-of e m)))
+crossed e m = viewing m (view-of e m)
 
+-- Nothing is left up to hi, or the ranges are surveyed, or the first record is passed.
 abbrev pub step-of : List ℕ → Sweep → Sweep
-step-of e m = cond (leb (m .fence) (next-key m)) (crossed e m) (neared e m)
+step-of e m =
+    cond (ltb (m .hi) (next-key m)) (told m 0 0 (m .key) (m .value) (m .stamp))
+    (cond (leb (m .fence) (next-key m)) (crossed e m) (gone e m))
 
 -- Step after step until the sweep has come to a live docket or to none, n at most.
 unfoldable pub arrived : ℕ → List ℕ → Sweep → Sweep
 arrived zero e m = m
 arrived (suc n) e m = cond (eqb (m .going) 0) m (arrived n e (step-of e m))
 
--- Each step passes a record, or is the last.
+-- Each step passes a record, moves the fence past its docket, or is the last.
 abbrev pub searched : List ℕ → Sweep → Sweep
-searched e m = arrived (suc (left e (m .heads))) e (standing m 1)
+searched e m = arrived (suc (steps-ahead e m)) e (standing m 1)
 
 -- Mostly one step is enough.
 abbrev pub advanced : List ℕ → Sweep → Sweep

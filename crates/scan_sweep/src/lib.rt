@@ -14,15 +14,14 @@ use scan_step::SEARCHING;
 use scan_step::Sweep;
 use scan_step::go;
 use scan_step::near;
-use scan_step::none;
 use scan_step::stand;
 use table_levels::deepest_of;
 use table_levels::level_at;
 use table_slots::stamp_of;
 ghost use mathlib.Core.Path.{_≡_};
-ghost use Prim.Native.Nat.{_<_, _≤_};
+ghost use Prim.Native.Nat.{_<_, _≤_, min};
 ghost use Rattle.lookup_level.specs.Readable.{Readable};
-ghost use Rattle.scan_step.specs.Sweeps.{next-key, date-above, is-hidden, Sweeping};
+ghost use Rattle.scan_step.specs.Sweeps.{next-key, date-above, is-hidden, told, Sweeping};
 ghost use Rattle.scan_sweep.specs.Sweeps.{opened, over, crossed, step-of, searched, advanced};
 
 // Comes to the first live docket from lo to hi.
@@ -85,15 +84,15 @@ fn open(e: &[u32], l: &[u32], lo: u32, hi: u32) -> Sweep
 {
     let levels = deepest_of(l) + 1;
     let mut heads = nothing();
-    let mut ranges = [0usize; 14];
+    let mut ranges = [0u32; 14];
     let mut i = 0;
     while i < levels {
         let row = level_at(l, i);
         heads = push(heads, head(e, i, seek(e, row.points, lo)));
         let f = front_at(e, row.ranges);
         let at = 2 * i;
-        ranges[at] = f.first;
-        ranges[at + 1] = f.behind;
+        ranges[at] = f.first as u32;
+        ranges[at + 1] = f.behind as u32;
         i += 1;
     }
     Sweep {
@@ -126,7 +125,7 @@ fn search(e: &[u32], m: Sweep) -> Sweep
     r
 }
 
-// One record, wherever its docket lies, and whatever its stamp.
+// One record, or the fence before it.
 fn step(e: &[u32], m: Sweep) -> Sweep
     requires { ⌜ Sweeping (now e) m ⌝ }
     ensures { λ r. ⌜ r ≡ step-of (now (e .entry)) m ⌝ }
@@ -141,21 +140,21 @@ fn step(e: &[u32], m: Sweep) -> Sweep
     go(e, m, is_hidden(e, m))
 }
 
-// One record whose docket lies past the fence: the ranges are surveyed first.
+// The ranges are surveyed for the docket of the first record, which then lies before the fence.
 fn cross(e: &[u32], m: Sweep) -> Sweep
     requires { ⌜ Sweeping (now e) m ⌝ }
     requires { ⌜ next-key m ≤ m .hi ⌝ }
     ensures { λ r. ⌜ r ≡ crossed (now (e .entry)) m ⌝ }
 {
-    let key = key_of(m.heads.first);
     let mut ranges = m.ranges;
-    let cover = survey(e, &mut ranges, m.levels, key);
+    let cover = survey(e, &mut ranges, m.levels, key_of(m.heads.first));
     let mut r = m;
     r.ranges = ranges;
     r.cover = cover.depth;
     r.date = cover.date;
-    r.fence = cover.fence;
-    go(e, r, is_hidden(e, r))
+    r.fence = lesser(cover.fence, m.hi + 1);
+    r.going = SEARCHING;
+    r
 }
 
 // Whether a level above the first record's has a range over its docket whose date is no earlier than its stamp. The latest date before
@@ -169,7 +168,7 @@ fn is_hidden(e: &[u32], m: Sweep) -> bool
     if m.date < stamp {
         return false;
     }
-    if m.cover <= level_of(m.heads.first) {
+    if m.cover as usize <= level_of(m.heads.first) {
         return true;
     }
     stamp <= latest_above(e, m)
@@ -186,4 +185,20 @@ fn latest_above(e: &[u32], m: Sweep) -> u32
     let mut ranges = m.ranges;
     let above = survey(e, &mut ranges, level, key);
     above.date
+}
+
+// No live docket is left.
+fn none(m: Sweep) -> Sweep
+    ensures { λ r. ⌜ r ≡ told m 0 0 (m .key) (m .value) (m .stamp) ⌝ }
+{
+    let mut r = m;
+    r.going = ARRIVED;
+    r.live = 0;
+    r
+}
+
+fn lesser(a: u32, b: u32) -> u32
+    ensures { λ r. ⌜ r ≡ min a b ⌝ }
+{
+    if a < b { a } else { b }
 }

@@ -11,6 +11,7 @@ use Rattle.lists.proofs.Loops.{iterate-end, iterate-next}
 use Rattle.tables.specs.Words.{Fits32}
 use Rattle.chain_cover.proofs.Fronts.{advanced-ordered}
 use Rattle.scan_fences.specs.Fences.{unseen, Survey, survey-level, view, surveyed}
+use Rattle.scan_fences.proofs.Levels.{first-low, behind-low}
 use Rattle.scan_fences.proofs.Surveys.{level-surveyed, Surveying, surveying-none, surveying-next}
 use Rattle.scan_fences.proofs.survey.Statement.{statement}
 use Rattle.scan_fences.proofs.survey.Tie as tie
@@ -54,65 +55,93 @@ loop-holds c =
 mul-at : tie.Need-mul-at Inv-loop μ-loop
 mul-at c = omega (arith, room c)
 
-mul-t11 : tie.Need-mul-t11 Inv-loop μ-loop
-mul-t11 c = omega (arith, room c)
+mul-first : tie.Need-mul-first Inv-loop μ-loop
+mul-first c = omega (arith, room c)
 
-slice-read-t13 : tie.Need-slice-read-t13 Inv-loop μ-loop
-slice-read-t13 c = omega (arith, room (c .before))
+slice-read-first : tie.Need-slice-read-first Inv-loop μ-loop
+slice-read-first c = omega (arith, room (c .before))
 
-add-ranges : tie.Need-add-ranges Inv-loop μ-loop
-add-ranges c = omega (arith, room (c .before))
+cast-first : tie.Need-cast-first Inv-loop μ-loop
+cast-first c = omega (arith, c .slice-known2 .given (2 * c .before .before .loop .i))
 
-mul-ranges : tie.Need-mul-ranges Inv-loop μ-loop
-mul-ranges c = omega (arith, room (c .before))
+add-behind : tie.Need-add-behind Inv-loop μ-loop
+add-behind c = omega (arith, room (c .before))
 
-slice-read-ranges : tie.Need-slice-read-ranges Inv-loop μ-loop
-slice-read-ranges c = omega (arith, room (c .before .before))
+mul-behind : tie.Need-mul-behind Inv-loop μ-loop
+mul-behind c = omega (arith, room (c .before))
+
+slice-read-behind : tie.Need-slice-read-behind Inv-loop μ-loop
+slice-read-behind c = omega (arith, room (c .before .before))
+
+cast-behind : tie.Need-cast-behind Inv-loop μ-loop
+cast-behind c = omega (arith, c .slice-known3 .given (2 * c .before .before .before .loop .i + 1))
 
 advance-requires : tie.Need-advance-requires Inv-loop μ-loop
-advance-requires c κs = 
+advance-requires c κs =
     let level = c .before .before in
     level .before .loop .inv .above .ready .order _ (level .loop-test .taken)
 
-mul-ranges-2 : tie.Need-mul-ranges-2 Inv-loop μ-loop
-mul-ranges-2 c = omega (arith, room (turn c))
+-- The level's front, advanced, stands in the table.
+low : (c : tie.After-advance Inv-loop μ-loop) → (c .advance .result .first ≤ 65535) × (c .advance .result .behind ≤ 65535)
+low c =
+    let ready = turn c .before .loop .inv .above .ready in
+    let o = advanced-ordered _ _ _ (ready .order _ (turn c .loop-test .taken)) in
+    rw (c .advance .ensures) (first-low o (ready .size), behind-low o (ready .size))
+
+cast-ranges : tie.Need-cast-ranges Inv-loop μ-loop
+cast-ranges c = omega (arith, low (c .before) .0)
+
+mul-ranges : tie.Need-mul-ranges Inv-loop μ-loop
+mul-ranges c = omega (arith, room (turn (c .before)))
 
 slice-write-ranges : tie.Need-slice-write-ranges Inv-loop μ-loop
-slice-write-ranges c = omega (arith, room (turn c))
+slice-write-ranges c = omega (arith, room (turn (c .before)))
 
-add-ranges-2 : tie.Need-add-ranges-2 Inv-loop μ-loop
-add-ranges-2 c = omega (arith, room (turn c))
+cast-ranges-2 : tie.Need-cast-ranges-2 Inv-loop μ-loop
+cast-ranges-2 c = omega (arith, low (c .before .before) .1)
 
-mul-ranges-3 : tie.Need-mul-ranges-3 Inv-loop μ-loop
-mul-ranges-3 c = omega (arith, room (turn c))
+add-ranges : tie.Need-add-ranges Inv-loop μ-loop
+add-ranges c = omega (arith, room (turn (c .before .before)))
+
+mul-ranges-2 : tie.Need-mul-ranges-2 Inv-loop μ-loop
+mul-ranges-2 c = omega (arith, room (turn (c .before .before)))
 
 slice-write-ranges-2 : tie.Need-slice-write-ranges-2 Inv-loop μ-loop
-slice-write-ranges-2 c = 
-    let l = turn c .before .loop in
-    rw (length-set (l .ranges) (2 * l .i) (c .advance .result .first)) (room (turn c))
+slice-write-ranges-2 c =
+    let passed = c .before .before in
+    let l = turn passed .before .loop in
+    rw (length-set (l .ranges) (2 * l .i) (passed .advance .result .first)) (room (turn passed))
 
 front-latest-requires : tie.Need-front-latest-requires Inv-loop μ-loop
 front-latest-requires c κs =
-    let level = turn c in
-    rw (c .advance .ensures) (advanced-ordered _ _ _ (level .before .loop .inv .above .ready .order _ (level .loop-test .taken)))
+    let passed = c .before .before in
+    let level = turn passed in
+    rw (passed .advance .ensures) (advanced-ordered _ _ _ (level .before .loop .inv .above .ready .order _ (level .loop-test .taken)))
+
+add-i : tie.Need-add-i Inv-loop μ-loop
+add-i c = omega (arith, turn (c .before .before .before) .loop-test .taken)
+
+cast-see : tie.Need-cast-see Inv-loop μ-loop
+cast-see c =
+    let level = turn (c .before .before .before) in
+    omega (arith, level .loop-test .taken, level .before .loop .inv .above .ready .few)
 
 see-requires : tie.Need-see-requires Inv-loop μ-loop
 see-requires c κs = search needs
 
-add-i : tie.Need-add-i Inv-loop μ-loop
-add-i c = omega (arith, turn (c .before .before) .loop-test .taken)
-
 loop-less : tie.Need-loop-less Inv-loop μ-loop
-loop-less c = omega (arith, turn (c .before .before) .loop-test .taken)
+loop-less c = omega (arith, turn (c .before .before .before .before) .loop-test .taken)
 
 loop-again : tie.Need-loop-again Inv-loop μ-loop
-loop-again c = 
-    let in-turn = turn (c .before .before) in
+loop-again c =
+    let asked = c .before in
+    let passed = asked .before .before .before in
+    let in-turn = turn passed in
     let l = in-turn .before .loop in
     let more = in-turn .loop-test .taken in
     let a = entry (in-turn .before) .args in
     let v : Survey = record { ranges = l .ranges; seen = l .seen } in
-    let next = level-surveyed (a .e .now) (a .docket) (l .i) v _ (c .before .before .advance .ensures) _ (c .before .front-latest .ensures) _ (c .see .ensures) in
+    let next = level-surveyed (a .e .now) (a .docket) (l .i) v _ (passed .advance .ensures) _ (asked .front-latest .ensures) _ (c .see .ensures) in
     rw next
     (record {
       above = surveying-next _ (words (in-turn .before)) _ _ _ (entry (in-turn .before) .pre .1) (l .i) v more (l .inv .above);
@@ -146,20 +175,25 @@ survey-spec =
     μ-loop
     loop-holds
     mul-at
-    mul-t11
-    slice-read-t13
-    add-ranges
-    mul-ranges
-    slice-read-ranges
+    mul-first
+    slice-read-first
+    cast-first
+    add-behind
+    mul-behind
+    slice-read-behind
+    cast-behind
     advance-requires
-    mul-ranges-2
+    cast-ranges
+    mul-ranges
     slice-write-ranges
-    add-ranges-2
-    mul-ranges-3
+    cast-ranges-2
+    add-ranges
+    mul-ranges-2
     slice-write-ranges-2
     front-latest-requires
-    see-requires
     add-i
+    cast-see
+    see-requires
     loop-less
     loop-again
     add-lesser

@@ -14,10 +14,11 @@ use Rattle.table_levels.specs.declared.Level.{Level}
 use Rattle.table_levels.specs.Levels.{level-at}
 use Rattle.chain_cover.specs.Skips.{first-slot, beginning}
 use Rattle.chain_cover.specs.Fronts.{front-at}
+use Rattle.chain_cover.proofs.Fronts.{front-at-ordered}
 use Rattle.scan_heads.specs.declared.Heads.{Heads}
 use Rattle.scan_heads.specs.Heads.{head-at, pushed}
 use Rattle.scan_fences.specs.Fences.{put-front}
-use Rattle.scan_fences.proofs.Levels.{put-length}
+use Rattle.scan_fences.proofs.Levels.{put-length, first-low, behind-low}
 use Rattle.scan_sweep.specs.Sweeps.{first-from, opened-heads, opened-ranges, opened}
 use Rattle.scan_sweep.proofs.Opening.{front-is-ordered, front-small}
 use Rattle.scan_sweep.proofs.open.Statement.{statement}
@@ -135,46 +136,62 @@ room c = omega (arith, level-in c, entry (c .before) .pre .shallow)
 mul-at : tie.Need-mul-at Inv-loop μ-loop
 mul-at c = omega (arith, room (tested c))
 
+-- The front of the level's ranges stands in the table.
+low : (c : tie.After-front-at Inv-loop μ-loop) → (c .front-at .result .first ≤ 65535) × (c .front-at .result .behind ≤ 65535)
+low c =
+    let read = row-read (c .before) in
+    let turn = read .before .before in
+    let o = front-at-ordered _ _ (entry turn .pre .ranges (turn .loop .i) (level-in (read .before))) in
+    rw (c .front-at .ensures, ap (λ (v : Level). v .ranges) (read .level-at .ensures)) (first-low o (entry turn .pre .size), behind-low o (entry turn .pre .size))
+
+cast-ranges : tie.Need-cast-ranges Inv-loop μ-loop
+cast-ranges c = omega (arith, low (c .before) .0)
+
 mul-ranges : tie.Need-mul-ranges Inv-loop μ-loop
-mul-ranges c = omega (arith, room (tested c))
+mul-ranges c = omega (arith, room (tested (c .before)))
 
 array-write-ranges : tie.Need-array-write-ranges Inv-loop μ-loop
-array-write-ranges c = omega (arith, room (tested c), tested c .before .loop .inv .2)
+array-write-ranges c = omega (arith, room (tested (c .before)), tested (c .before) .before .loop .inv .2)
+
+cast-ranges-2 : tie.Need-cast-ranges-2 Inv-loop μ-loop
+cast-ranges-2 c = omega (arith, low (c .before .before) .1)
 
 add-ranges : tie.Need-add-ranges Inv-loop μ-loop
-add-ranges c = omega (arith, room (tested c))
+add-ranges c = omega (arith, room (tested (c .before .before)))
 
 mul-ranges-2 : tie.Need-mul-ranges-2 Inv-loop μ-loop
-mul-ranges-2 c = omega (arith, room (tested c))
+mul-ranges-2 c = omega (arith, room (tested (c .before .before)))
 
 array-write-ranges-2 : tie.Need-array-write-ranges-2 Inv-loop μ-loop
 array-write-ranges-2 c =
-    let l = tested c .before .loop in
-    omega (arith, room (tested c), l .inv .2, length-set (l .ranges) (2 * l .i) (c .front-at .result .first))
+    let front = c .before .before in
+    let l = tested front .before .loop in
+    omega (arith, room (tested front), l .inv .2, length-set (l .ranges) (2 * l .i) (front .front-at .result .first))
 
 add-i : tie.Need-add-i Inv-loop μ-loop
-add-i c = omega (arith, tested c .loop-test .taken)
+add-i c = omega (arith, tested (c .before .before) .loop-test .taken)
 
 loop-less : tie.Need-loop-less Inv-loop μ-loop
-loop-less c = omega (arith, tested c .loop-test .taken)
+loop-less c = omega (arith, tested (c .before .before) .loop-test .taken)
 
 loop-again : tie.Need-loop-again Inv-loop μ-loop
 loop-again c =
-    let turn = tested c .before in
-    let more = tested c .loop-test .taken in
+    let front = c .before .before in
+    let turn = tested front .before in
+    let more = tested front .loop-test .taken in
     let e = entry turn .args .e .now in
     let l = entry turn .args .l .now in
     let lo = entry turn .args .lo in
     let i = turn .loop .i in
     let heads = turn .loop .heads in
     let ranges = turn .loop .ranges in
-    let push = c .before in
+    let push = front .before in
     let pushed-is = push .push .ensures ∙ ap (pushed heads) (push .before .head .ensures ∙ ap (head-at e i) (found (push .before .before))) in
-    let front-is = c .front-at .ensures ∙ ap (λ (v : Level). front-at e (v .ranges)) (row-read push .level-at .ensures) in
+    let front-is = front .front-at .ensures ∙ ap (λ (v : Level). front-at e (v .ranges)) (row-read push .level-at .ensures) in
     let ranges-is = ap (put-front ranges i) front-is in (
       omega (arith, more),
       turn .loop .inv .1,
-      put-length ranges i (c .front-at .result) ∙ turn .loop .inv .2,
+      put-length ranges i (front .front-at .result) ∙ turn .loop .inv .2,
       rw pushed-is (sym (iterate-next (push-level e l lo) _ i heads _ more (add-one _)) ∙ turn .loop .inv .3),
       rw ranges-is (sym (iterate-next (range-level e l) _ i ranges _ more (add-one _)) ∙ turn .loop .inv .4),
     )
@@ -208,8 +225,10 @@ open-spec =
     push-requires
     front-at-requires
     mul-at
+    cast-ranges
     mul-ranges
     array-write-ranges
+    cast-ranges-2
     add-ranges
     mul-ranges-2
     array-write-ranges-2

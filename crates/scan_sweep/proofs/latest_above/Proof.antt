@@ -1,12 +1,12 @@
--- `scan_step::latest_above`: a survey of the levels above, on a copy of the ranges.
+-- `scan_sweep::latest_above`: a survey of the levels above, on a copy of the ranges.
 use mathlib.Core.Path.{_≡_}
 use native.Mathlib.Omega.{arith}
 use borrow.Author.Needs.{needs}
 use Rattle.scan_fences.specs.Fences.{View, surveyed}
 use Rattle.scan_step.specs.Sweeps.{next-key, next-level}
 use Rattle.scan_step.proofs.Hidden.{above-ready, above-is}
-use Rattle.scan_step.proofs.latest_above.Statement.{statement}
-use Rattle.scan_step.proofs.latest_above.Tie as tie
+use Rattle.scan_sweep.proofs.latest_above.Statement.{statement}
+use Rattle.scan_sweep.proofs.latest_above.Tie as tie
 
 -- The entry, seen from where the docket is read.
 abbrev entry : tie.After-key-of → tie.Start
