@@ -1,15 +1,16 @@
 -- Laws of the walk for the latest date: what each turn adds, that it finds the date, and up to where the date stays the latest.
 use mathlib.Core.Path.{_≡_, refl, _∙_}
-use mathlib.Core.Logic.{_≢_, _⊎_, inl, inr, ⊎-elim}
-use mathlib.Core.Bool.{true, false}
+use mathlib.Core.Logic.{_≢_}
+use mathlib.Core.Bool.{true, false, _&&_}
 use mathlib.Core.List.{List, [], _∷_, map}
 use Prim.Native.Nat.{ℕ, _<_, _≤_, max}
 use native.Mathlib.Omega.{arith}
-use native.Mathlib.Decide.{decLt, ℕ-discrete}
-use borrow.Author.Tests.{le-leb, lt-leb, lt-ltb, le-ltb}
-use lib.Dec.{leb}
+use native.Mathlib.Decide.{decLt}
+use borrow.Author.Tests.{le-leb, lt-leb, lt-ltb, le-ltb, leb-true, ltb-true, ltb-false}
+use lib.Dec.{leb, ltb}
 use Rattle.lists.specs.All.{All}
-use Rattle.lists.proofs.Bools.{cond-elim, and-false-right}
+use Rattle.lists.proofs.Bools.{cond-elim, and-left, and-false-right}
+use Rattle.lists.proofs.Tests.{all-weaken, all-every}
 use Rattle.model.specs.Coverage.{over}
 use Rattle.model.specs.Lookup.{latest}
 use Rattle.model.proofs.Coverage.{over-before, over-inside, over-past}
@@ -17,6 +18,7 @@ use Rattle.tables.specs.Slots.{next-of, lo-of, hi-of, date-of}
 use Rattle.tables.specs.Words.{Fits32}
 use Rattle.tables.specs.Sound.{chain-from, ascend}
 use Rattle.tables.specs.Placed.{read-range}
+use Rattle.tables.proofs.Slots.{hi-small}
 use Rattle.chain_cover.specs.declared.Front.{Front}
 use Rattle.chain_cover.specs.declared.Latest.{Latest}
 use Rattle.chain_cover.specs.Fronts.{front-slots}
@@ -142,37 +144,59 @@ module _ (e : List ℕ) (words : Fits32 e) (k : ℕ) where
           ends (yes past) less = rw (latest-off e j s ss past) (omega (arith, latest-more e k s ss))
           ends (no upto) less = rw (latest-on e j s ss (omega arith) (omega arith), latest-on e k s ss (omega arith) (omega arith)) (omega arith)
 
-  -- The date is the one there was before, or is that of a range that reaches up to the last docket.
-  abbrev Comes : List ℕ → Latest → Latest → ℕ → Type 0
-  Comes ss m r j = ((r .date ≡ m .date) × (r .last ≡ m .last)) ⊎ (j ≤ r .last → r .date ≤ latest-at e ss j)
+-- What holds of the date and of the last docket that were met before, and of those of each range over the docket, holds of those that are met.
+module _ (e : List ℕ) (k : ℕ) (P : ℕ → ℕ → Type 0) where
+  met-holds : (s : ℕ) (m : Latest) → P (m .date) (m .last) → (k ≤ hi-of e s → P (date-of e s) (hi-of e s)) → P (met e k s m .date) (met e k s m .last)
+  unfolding met
+  met-holds s m p q =
+      cond-elim (λ (l : Latest). P (l .date) (l .last)) (leb k (hi-of e s) && ltb (m .date) (date-of e s))
+      (record { date = date-of e s; last = hi-of e s; next = m .next }) m
+      (λ t. q (leb-true k (hi-of e s) (and-left (leb k (hi-of e s)) (ltb (m .date) (date-of e s)) t))) (λ t. p)
 
-  surveyed-comes : (ss : List ℕ) (m : Latest) (j : ℕ) → k ≤ j → Comes ss m (surveyed e k ss m) j
-  surveyed-comes [] m j le = rw (surveyed-none e k m) (inl (refl, refl))
-  surveyed-comes (s ∷ ss) m j le = go (decLt k (lo-of e s)) (surveyed-comes ss (met e k s m) j le)
-    where
-      more : (r : Latest) → Comes ss m r j → Comes (s ∷ ss) m r j
-      more r = ⊎-elim inl (λ h. inr (λ upto. omega (arith, h upto, latest-more e j s ss)))
+  surveyed-holds : (ss : List ℕ) (m : Latest) → P (m .date) (m .last) → All (λ s. lo-of e s ≤ k → k ≤ hi-of e s → P (date-of e s) (hi-of e s)) ss
+      → P (surveyed e k ss m .date) (surveyed e k ss m .last)
+  unfolding surveyed
+  surveyed-holds [] m p a = p
+  surveyed-holds (s ∷ ss) m p a =
+      cond-elim (λ (l : Latest). P (l .date) (l .last)) (ltb k (lo-of e s)) (record { date = m .date; last = m .last; next = lo-of e s }) (surveyed e k ss (met e k s m))
+      (λ t. p) (λ t. surveyed-holds ss (met e k s m) (met-holds s m p (a .0 (ltb-false k (lo-of e s) t))) (a .1))
 
-      later : (r : Latest) → lo-of e s ≤ k → Comes ss (record { date = date-of e s; last = hi-of e s; next = m .next }) r j → Comes (s ∷ ss) m r j
-      later r from =
-          ⊎-elim (λ q. inr (λ upto. rw (latest-on e j s ss (omega arith) (omega (arith, q .1))) (omega (arith, q .0))))
-          (λ h. inr (λ upto. omega (arith, h upto, latest-more e j s ss)))
+-- The next range begins past the docket.
+module _ (e : List ℕ) (k : ℕ) where
+  met-next : (s : ℕ) (m : Latest) → met e k s m .next ≡ m .next
+  unfolding met
+  met-next s m =
+      cond-elim (λ (l : Latest). l .next ≡ m .next) (leb k (hi-of e s) && ltb (m .date) (date-of e s))
+      (record { date = date-of e s; last = hi-of e s; next = m .next }) m (λ t. refl) (λ t. refl)
 
-      met-comes : (r : Latest) → lo-of e s ≤ k → Dec (hi-of e s < k) → Dec (m .date < date-of e s) → Comes ss (met e k s m) r j → Comes (s ∷ ss) m r j
-      met-comes r from (yes past) d h = more r (rw (met-ended e k s m past) at h)
-      met-comes r from (no upto) (yes lt) h = later r from (rw (met-later e k s m (omega arith) lt) at h)
-      met-comes r from (no upto) (no older) h = more r (rw (met-older e k s m (omega arith)) at h)
+  surveyed-ahead : (ss : List ℕ) (m : Latest) → k < m .next → k < surveyed e k ss m .next
+  unfolding surveyed
+  surveyed-ahead [] m h = h
+  surveyed-ahead (s ∷ ss) m h =
+      cond-elim (λ (l : Latest). k < l .next) (ltb k (lo-of e s)) (record { date = m .date; last = m .last; next = lo-of e s }) (surveyed e k ss (met e k s m))
+      (λ t. ltb-true k (lo-of e s) t) (λ t. surveyed-ahead ss (met e k s m) (rw (met-next s m) h))
 
-      go : Dec (k < lo-of e s) → Comes ss (met e k s m) (surveyed e k ss (met e k s m)) j → Comes (s ∷ ss) m (surveyed e k (s ∷ ss) m) j
-      go (yes before) h = rw (surveyed-past e k s ss m before) (inl (refl, refl))
-      go (no from) h = rw (surveyed-next e k s ss m (omega arith)) (met-comes (surveyed e k ss (met e k s m)) (omega arith) (decLt (hi-of e s) k) (decLt (m .date) (date-of e s)) h)
+-- A range has its date over each of its dockets.
+dates-from : (e : List ℕ) (d : ℕ → ℕ) (ss : List ℕ) → ((j : ℕ) → latest-at e ss j ≤ d j)
+    → All (λ s. (j : ℕ) → lo-of e s ≤ j → j ≤ hi-of e s → date-of e s ≤ d j) ss
+dates-from e d [] h = tt
+dates-from e d (s ∷ ss) h =
+    (λ j from upto. omega (arith, latest-on e j s ss from upto, h j), dates-from e d ss (λ j. omega (arith, latest-more e j s ss, h j)))
 
-  -- The date stays the latest up to the next range, and up to the end of the range that has it.
-  pub surveyed-stays : (ss : List ℕ) → ascend e 0 ss ≡ true → (j : ℕ) → k ≤ j → let r = surveyed e k ss no-date in
-      j < r .next → (r .date ≢ 0 → j ≤ r .last) → latest-at e ss j ≡ r .date
-  surveyed-stays ss a j le lt reaches = go (surveyed-comes ss no-date j le) (ℕ-discrete (surveyed e k ss no-date .date) 0)
-    where
-      go : Comes ss no-date (surveyed e k ss no-date) j → Dec (surveyed e k ss no-date .date ≡ 0) → latest-at e ss j ≡ surveyed e k ss no-date .date
-      go (inl q) d = omega (arith, q .0, surveyed-latest ss a, surveyed-before 0 ss no-date a j le lt)
-      go (inr h) (yes z) = omega (arith, surveyed-latest ss a, surveyed-before 0 ss no-date a j le lt)
-      go (inr h) (no nz) = omega (arith, h (reaches nz), surveyed-latest ss a, surveyed-before 0 ss no-date a j le lt)
+-- What the latest date over docket k says of dockets from there on: up to the next range none is later, and up to the end of the range that has it it is there.
+pub record Dated (e ss : List ℕ) (k : ℕ) (l : Latest) : Type 0 where
+  pub upto : (j : ℕ) → k ≤ j → j < l .next → latest-at e ss j ≤ l .date
+  pub from : (j : ℕ) → k ≤ j → j ≤ l .last → l .date ≤ latest-at e ss j
+  pub ahead : k < l .next
+  pub reach : l .date ≢ 0 → k ≤ l .last
+  pub low : l .last ≤ 65535
+
+pub dated : (e : List ℕ) → Fits32 e → (ss : List ℕ) → ascend e 0 ss ≡ true → (k : ℕ) → k ≤ 65535 → Dated e ss k (surveyed e k ss no-date)
+dated e words ss a k last = record {
+  upto = λ j kj h. omega (arith, surveyed-before e words k 0 ss no-date a j kj h, surveyed-latest e words k ss a);
+  from = surveyed-holds e k (λ date end. (j : ℕ) → k ≤ j → j ≤ end → date ≤ latest-at e ss j) ss no-date (λ j kj h. omega arith)
+      (all-weaken _ _ (λ s h low high j kj end. h j (omega arith) end) ss (dates-from e (latest-at e ss) ss (λ j. omega arith)));
+  ahead = surveyed-ahead e k ss no-date (omega arith);
+  reach = surveyed-holds e k (λ date end. date ≢ 0 → k ≤ end) ss no-date (λ nz. absurd (nz refl)) (all-every _ (λ s low high nz. high) ss);
+  low = surveyed-holds e k (λ date end. end ≤ 65535) ss no-date (omega arith) (all-every _ (λ s low high. omega (arith, hi-small e words s)) ss);
+}

@@ -1,9 +1,7 @@
 -- What a survey says: from the docket on the ranges say the same, and before the fence no level has a later date than the cover's.
-use mathlib.Core.Path.{_≡_, refl, sym, ap, _∙_}
-use mathlib.Core.Logic.{_≢_}
-use mathlib.Core.Bool.{Bool, true, false, cond}
+use mathlib.Core.Path.{_≡_, refl, _∙_}
 use mathlib.Core.List.{List}
-use Prim.Native.Nat.{ℕ, zero, suc, _+_, _*_, _<_, _≤_, min}
+use Prim.Native.Nat.{ℕ, _+_, _<_, _≤_, min}
 use native.Mathlib.Nat.{zero-add}
 use native.Mathlib.Numerals.{add-one}
 use native.Mathlib.Omega.{arith}
@@ -17,12 +15,12 @@ use Rattle.lists.proofs.Bools.{cond-elim}
 use Rattle.tables.specs.Words.{Fits32}
 use Rattle.chain_cover.specs.declared.Front.{Front}
 use Rattle.chain_cover.specs.declared.Latest.{Latest}
-use Rattle.chain_cover.specs.Fronts.{front-slots, advanced, FrontOrdered}
+use Rattle.chain_cover.specs.Fronts.{front-slots, advanced}
 use Rattle.chain_cover.specs.Dates as walk
+use Rattle.chain_cover.proofs.Dates.{Dated, dated}
 use Rattle.chain_cover.proofs.Fronts.{front-ascends, advanced-ordered, advanced-latest}
 use Rattle.scan_fences.specs.declared.Seen.{Seen}
 use Rattle.scan_fences.specs.Fences.{front-in, put-front, ranges-in, Ready, slots-latest, levels-latest, Covering, unseen, sees, Survey, survey-level, View, surveyed}
-use Rattle.scan_fences.proofs.Dates.{Dated, dated}
 use Rattle.scan_fences.proofs.Levels.{put-length, put-same, put-other, put-ready, latest-none-later, latest-includes, latest-same}
 
 -- What a turn makes of the ranges, and of what was seen.

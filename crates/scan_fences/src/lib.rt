@@ -5,7 +5,7 @@ use chain_cover::advance;
 use chain_cover::front_latest;
 ghost use mathlib.Core.Path.{_≡_};
 ghost use Prim.Native.Nat.{_≤_, min};
-ghost use Rattle.scan_fences.specs.Fences.{Ready, unseen, sees, surveyed};
+ghost use Rattle.scan_fences.specs.Fences.{Ready, sees, surveyed};
 
 // Past the last docket, and that.
 const NO_FENCE: u32 = 65536;

@@ -52,7 +52,21 @@ over = record {
 
 -- The ranges were surveyed; the fence lies no farther than past hi.
 abbrev pub viewing : Sweep → View → Sweep
-viewing m v = record { heads = m .heads; ranges = v .ranges; levels = m .levels; cover = v .cover .depth; date = v .cover .date; fence = min (v .cover .fence) (m .hi + 1); from = m .from; hi = m .hi; going = 1; live = m .live; key = m .key; value = m .value; stamp = m .stamp }
+viewing m v = record {
+  heads = m .heads;
+  ranges = v .ranges;
+  levels = m .levels;
+  cover = v .cover .depth;
+  date = v .cover .date;
+  fence = min (v .cover .fence) (m .hi + 1);
+  from = m .from;
+  hi = m .hi;
+  going = 1;
+  live = m .live;
+  key = m .key;
+  value = m .value;
+  stamp = m .stamp;
+}
 
 -- For the first record's docket.
 abbrev pub view-of : List ℕ → Sweep → View

@@ -1,5 +1,5 @@
 -- `scan_sweep::is_hidden`: by a stamp past the latest date it is not; else the date tells where the levels above suffice to have it, and where not, they do.
-use mathlib.Core.Path.{_≡_, sym}
+use mathlib.Core.Path.{sym}
 use native.Mathlib.Omega.{arith}
 use borrow.Author.Needs.{needs}
 use Rattle.scan_heads.proofs.Passing.{slot-on}
