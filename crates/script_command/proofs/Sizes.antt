@@ -7,7 +7,6 @@ use borrow.Author.Tests.{ltb-false, eqb-true}
 use lib.Dec.{ltb, eqb}
 use lib.ListN.{length, take}
 use Rattle.tables.specs.Slots.{entry-length}
-use Rattle.tables.specs.Rows.{level-length}
 use Rattle.settings.specs.declared.Settings.{Settings}
 use Rattle.settings.proofs.Allowed.{allowed-bounds}
 use Rattle.lists.proofs.Bools.{cond-elim}

@@ -148,7 +148,8 @@ module _ (n : ℕ) (p : State ℕ ℕ) (f : Formed n p) (e : List ℕ) (h : Hold
     level-is-sound = record {
       point-forms = rw points≡ (along-points _ (λ q. q .key ≤ 65535) (λ q k l m r. point-form n e small q k l m r) (g .keys));
       point-order = rw points≡ (points-order n e small (v .points) 0 (g .keys) (g .points-ascend) (all-every _ (λ q. omega arith) (v .points)) cp);
-      range-forms = rw ranges≡ (along-ranges _ (λ r. ((r .lo ≤ r .hi) × (r .hi ≤ 65535)) × ((1 ≤ r .date) × (r .date ≤ r .stamp))) (λ q k l m r. range-form n e small q k l m r) (all-both _ _ _ (λ r a d. (a, d)) (v .ranges) (g .spans) (g .range-dates)));
+      range-forms = rw ranges≡ (along-ranges _ (λ r. ((r .lo ≤ r .hi) × (r .hi ≤ 65535)) × ((1 ≤ r .date) × (r .date ≤ r .stamp)))
+          (λ q k l m r. range-form n e small q k l m r) (all-both _ _ _ (λ r a d. (a, d)) (v .ranges) (g .spans) (g .range-dates)));
       range-order = rw ranges≡ (ranges-order n e small (v .ranges) 0 (g .spans) (g .ranges-ascend) (all-every _ (λ r. omega arith) (v .ranges)) cr);
       stamps = rw (points≡, ranges≡) (all-append _ (cell-slots (map point-cell (v .points))) (cell-slots (map range-cell (v .ranges)))
           (along-points _ (λ q. (1 ≤ q .stamp) × (q .stamp ≤ p .clock))

@@ -16,6 +16,7 @@ pub mod WordsSound
 pub mod FormedSound
 pub mod SoundChains
 pub mod Deepest
+pub mod Ranges
 pub mod FormedLevels
 pub mod FormedSteps
 pub mod Whole

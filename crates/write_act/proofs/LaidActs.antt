@@ -6,7 +6,7 @@ use mathlib.Core.List.{List, [], _∷_, map}
 use Prim.Native.Nat.{ℕ, _+_, _-_, _≤_}
 use native.Mathlib.Omega.{arith}
 use lib.Dec.{eqb}
-use lib.ListN.{length, getD, set, length-map}
+use lib.ListN.{length, set, length-map}
 use Rattle.lists.specs.Lists.{select, reject}
 use Rattle.lists.proofs.Bools.{cond-elim}
 use Rattle.lists.proofs.Tests.{length-select}
