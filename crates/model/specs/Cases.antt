@@ -5,7 +5,7 @@ use mathlib.Core.List.{List, [], _∷_, _++_, map}
 use Prim.Native.Nat.{ℕ, _≤_}
 use Rattle.settings.specs.declared.Settings.{Settings}
 use Rattle.settings.specs.Limits.{limit}
-use Rattle.model.specs.Records.{value, tombstone, State, empty, slotless}
+use Rattle.model.specs.Records.{value, tombstone, Point, Range, Level, State, empty, level, slotless}
 use Rattle.model.specs.Steps.{put, delete, delete-range, merge-state}
 use Rattle.model.specs.Lookup.{absent, found, scan, lookup}
 use Rattle.model.specs.Calls.{written, flush, tick, Call, Answer, refusing, step, run, answers}
@@ -55,6 +55,18 @@ morning = P 1 7 70 ∷ P 1 8 80 ∷ D 2 7 ∷ P 3 9 90 ∷ []
 abbrev pub noon : List (Call ℕ)
 noon = morning ++ P 4 7 71 ∷ []
 
+-- A put and a range delete, as records, and levels in which two ranges stand two levels above the puts of dockets 5 and 6.
+abbrev pub kept : ℕ → ℕ → ℕ → Point (Unit {0}) ℕ
+kept k v stamp = record { slot = tt; key = k; entry = value v; stamp = stamp }
+
+abbrev pub range : ℕ → ℕ → ℕ → ℕ → Range (Unit {0})
+range lo hi date stamp = record { slot = tt; lo = lo; hi = hi; date = date; stamp = stamp }
+
+abbrev pub cleared : List (Level (Unit {0}) ℕ)
+cleared =
+    record { points = []; ranges = range 0 9 1 9 ∷ range 5 6 3 9 ∷ []; owed = 9 }
+    ∷ empty ∷ record { points = kept 5 50 3 ∷ kept 6 60 4 ∷ []; ranges = []; owed = 0 } ∷ []
+
 pub record CaseTable : Type 0 where
   -- "● L=3 T=2 D=9: limits 3, 9. ● L=4 T=4 D=100: 4, 23, 100. ● L=3 T=10 D=10: 0, 10. ● L=6 T=2 D=1: 0, 0, 0, 0, 1."
   pub limits-3-2-9 : limits (settings 3 2 1 9) (1 ∷ 2 ∷ []) ≡ 3 ∷ 9 ∷ []
@@ -79,6 +91,13 @@ pub record CaseTable : Type 0 where
   -- A put after a range delete at the same clock stays live; of two pallets the one graded up to the day goes.
   pub same-clock : lookup (run hall (P 3 5 50 ∷ Y 3 0 9 3 ∷ P 3 5 51 ∷ []) .levels) 5 ≡ found 51 3
   pub up-to-the-date : map (lookup (run hall (P 3 5 50 ∷ P 4 6 60 ∷ Y 9 0 9 3 ∷ F 9 ∷ []) .levels)) (5 ∷ 6 ∷ []) ≡ absent ∷ found 60 4 ∷ []
+  -- "a lookup carries the latest s met so far", "and a point found deeper with a stamp at or below it is absent".
+  pub latest-of-all : map (lookup cleared) (5 ∷ 6 ∷ []) ≡ absent ∷ found 60 4 ∷ []
+  -- "Of two ranges with equal lo and hi the one left keeps the later s and the later stamp", and points are judged before that.
+  pub later-of-both : level 0 (run hall (Y 4 0 9 3 ∷ Y 5 0 9 1 ∷ [])) .ranges ≡ range 0 9 3 5 ∷ []
+  pub judged-first : lookup (run (store 6 (settings 3 2 4 9)) (Y 5 0 9 5 ∷ P 5 5 50 ∷ Y 5 0 9 3 ∷ []) .levels) 5 ≡ found 50 5
+  -- A range delete that acts on level L "covers a record only if its stamp is at most s".
+  pub acted-up-to-the-date : map (lookup (run (store 2 (settings 2 2 1 9)) (P 1 5 50 ∷ P 2 6 60 ∷ Y 3 0 9 1 ∷ []) .levels)) (5 ∷ 6 ∷ []) ≡ absent ∷ found 60 2 ∷ []
   -- The script and its output, lookups apart.
   pub script :
       answers hall (noon ++ T 5 ∷ T 11 ∷ F 10 ∷ [])
@@ -100,9 +119,9 @@ turned = record {
   clock = 7;
   free = tt ∷ tt ∷ tt ∷ [];
   levels =
-      record { points = []; ranges = record { slot = tt; lo = 1; hi = 1; date = 1; stamp = 1 } ∷ []; owed = 1 }
+      record { points = []; ranges = range 1 1 1 1 ∷ []; owed = 1 }
       ∷ record { points = record { slot = tt; key = 1; entry = tombstone; stamp = 1 } ∷ []; ranges = []; owed = 1 }
-      ∷ record { points = record { slot = tt; key = 1; entry = value 10; stamp = 7 } ∷ []; ranges = []; owed = 0 } ∷ empty ∷ [];
+      ∷ record { points = kept 1 10 7 ∷ []; ranges = []; owed = 0 } ∷ empty ∷ [];
 }
 
 -- What tells a store from its near misses, and the edges that carry no ●.
