@@ -14,9 +14,9 @@ static const struct load {
     const char *name, *letters;
     enum shape shape;
 } loads[] = {
-    {"mixed", mixed_calls, MIXED}, {"lookup", "G", MIXED}, {"delete-heavy", "PPPPPPPPPDDDDDDDDDTT", MIXED}, {"range-heavy", "PPPPPRRRRT", MIXED},
+    {"mixed", mixed_calls, MIXED}, {"lookup", "G", MIXED}, {"grower's lookup", "g", MIXED}, {"delete-heavy", "PPPPPPPPPDDDDDDDDDTT", MIXED}, {"range-heavy", "PPPPPRRRRT", MIXED},
     {"dated", "PPPPPPPPPPYYYYYYYWTT", MIXED},
-    {"full table", "PPPPPPPPDT", PUT_AT_RANDOM}, {"scan", "S", MIXED}, {"check", "C", MIXED},
+    {"full table", "PPPPPPPPDT", PUT_AT_RANDOM}, {"scan", "S", MIXED}, {"grower's scan", "s", MIXED}, {"check", "C", MIXED},
 };
 
 static const struct size {
@@ -27,6 +27,7 @@ static uint32_t entries[2][GUONTREM_ENTRY_WORDS(GUONTREM_MAX_SLOTS)], levels[2][
 static struct store before = {entries[0], levels[0], 0, LEVEL_WORDS}, work = {entries[1], levels[1], 0, LEVEL_WORDS};
 static struct call calls[MOST_CALLS];
 static struct guontrem_row rows[GUONTREM_MAX_SLOTS];
+static struct guontrem_count_row count_rows[GUONTREM_MAX_SLOTS];
 
 static void copy_tables(struct store *to, const struct store *from) {
     memcpy(to->entries, from->entries, from->entry_words * sizeof *from->entries);
@@ -34,11 +35,16 @@ static void copy_tables(struct store *to, const struct store *from) {
     to->entry_words = from->entry_words;
 }
 
-/* Microseconds a call; the answers are added up so that both can be compared. */
+/* Microseconds a call; the answers and prices are added up so that both can be compared. */
 static double run(call_on *f, size_t count, uint64_t *sum) {
+    uint32_t price = 0;
+    const struct lent lent = {&price, rows, count_rows};
     copy_tables(&work, &before);
     double start = microseconds();
-    for (size_t i = 0; i < count; i++) *sum = *sum * 31 + f(&work, &calls[i], rows);
+    for (size_t i = 0; i < count; i++) {
+        uint64_t answer = f(&work, &calls[i], &lent);
+        *sum = *sum * 31 + answer + price;
+    }
     return (microseconds() - start) / (double)count;
 }
 

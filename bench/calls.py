@@ -12,11 +12,13 @@ REPORT, PLOT = ROOT / "docs" / "BENCHMARK.md", ROOT / "docs" / "benchmark.svg"
 MEANINGS = {
     "mixed": "40 % puts, 30 % lookups, 10 % deletes, 10 % ticks, 5 % range deletes, 5 % flushes; dockets half the slots",
     "lookup": "a docket, after as many mixed calls as slots",
+    "grower's lookup": "the same without the price",
     "delete-heavy": "45 % puts, 45 % deletes, 10 % ticks",
     "range-heavy": "50 % puts, 40 % range deletes of one to five dockets, 10 % ticks",
     "dated": "50 % puts, 35 % range deletes of one to five dockets and 5 % of all, each with any date, 10 % ticks",
     "full table": "80 % puts, 10 % deletes, 10 % ticks on one docket more than slots, every slot taken at the start",
     "scan": "all dockets, with a row for each slot",
+    "grower's scan": "the same into rows without the price",
     "check": "the check that every call begins with, alone",
 }
 HEAD = """# Time per call

@@ -10,16 +10,16 @@
 
 enum { MOST_SLOTS = 65535, DEEPEST = 6, LEVEL_WORDS = 4 * (DEEPEST + 2), ROUNDS = 301, SEED = 1 };
 
-static uint32_t entries[4 * (MOST_SLOTS + 1)], levels[LEVEL_WORDS];
+static uint32_t entries[GUONTREM_ENTRY_WORDS(MOST_SLOTS)], levels[LEVEL_WORDS];
 static uint32_t order[MOST_SLOTS];
 static size_t taken;
 
 /* Takes the next slot, writes its row, and links it behind the one before or to the head. */
-static void append(uint32_t *head, uint32_t *last, uint32_t kind, uint32_t lo, uint32_t hi, uint32_t word, uint32_t stamp) {
+static void append(uint32_t *head, uint32_t *last, uint32_t kind, uint32_t lo, uint32_t hi, uint32_t word, uint32_t stamp, uint32_t price) {
     uint32_t slot = order[taken++];
-    uint32_t *row = entries + 4 * slot;
-    row[0] = kind << 16, row[1] = lo | hi << 16, row[2] = word, row[3] = stamp;
-    if (*last != 0) entries[4 * *last] |= slot;
+    uint32_t *row = entries + GUONTREM_SLOT_WORDS * slot;
+    row[0] = kind << 16, row[1] = lo | hi << 16, row[2] = word, row[3] = stamp, row[4] = price;
+    if (*last != 0) entries[GUONTREM_SLOT_WORDS * *last] |= slot;
     else *head = slot;
     *last = slot;
 }
@@ -45,25 +45,26 @@ static void fill(size_t slots, int scattered) {
         for (size_t i = 0; i < points; i++) {
             uint32_t docket = (uint32_t)(i * 65536 / points);
             int deleted = level < DEEPEST && one_in(3);
-            append(&row[0], &last, deleted ? 2 : 1, docket, docket, deleted ? 0 : random_word(), 500 + random_below(1000));
+            uint32_t count = deleted ? 0 : random_word(), price = deleted ? 0 : random_word();
+            append(&row[0], &last, deleted ? 2 : 1, docket, docket, count, 500 + random_below(1000), price);
         }
         last = 0;
         for (size_t i = 0; i < ranges; i++) {
             uint32_t lo = (uint32_t)(i * 65536 / ranges), stamp = 500 + random_below(1000);
-            append(&row[1], &last, 3, lo, lo + random_below(65536 - lo), random_between(1, stamp), stamp);
+            append(&row[1], &last, 3, lo, lo + random_below(65536 - lo), random_between(1, stamp), stamp, 0);
         }
         row[2] = (uint32_t)count, row[3] = level < DEEPEST && count ? 400 : 0;
         left -= count;
     }
     uint32_t last = 0;
-    while (taken < slots) append(&entries[0], &last, 0, 0, 0, 0, 0);
+    while (taken < slots) append(&entries[0], &last, 0, 0, 0, 0, 0, 0);
 }
 
 typedef uint32_t check(const uint32_t *, size_t, const uint32_t *, size_t);
 
 static double once(check *f, size_t slots, size_t calls, uint32_t *answer) {
     double start = microseconds();
-    for (size_t i = 0; i < calls; i++) *answer |= f(entries, 4 * (slots + 1), levels, LEVEL_WORDS);
+    for (size_t i = 0; i < calls; i++) *answer |= f(entries, GUONTREM_ENTRY_WORDS(slots), levels, LEVEL_WORDS);
     return (microseconds() - start) / (double)calls;
 }
 
@@ -91,7 +92,7 @@ static void compare(size_t tables) {
         size_t slots = random_between(1, 60);
         if (i % 64 == 0) fill(slots, 1);
         else slots = taken;
-        size_t words = 4 * (slots + 1), at = random_below((uint32_t)words + LEVEL_WORDS);
+        size_t words = GUONTREM_ENTRY_WORDS(slots), at = random_below((uint32_t)words + LEVEL_WORDS);
         uint32_t *word = at < words ? &entries[at] : &levels[at - words], old = *word;
         uint32_t next = random_below((uint32_t)slots + 2);
         uint32_t changes[] = {next, old ^ 1u << random_below(32), 0, old + 1, (old & 0xffff0000u) | next, random_word(), old};

@@ -22,11 +22,11 @@ static const struct load {
     {65535, 5, 10, ANY_AND_WIDE}, {65535, 50, 10, ANY_AND_WIDE},
 };
 
-static uint32_t entries[4 * (MOST_SLOTS + 1)], levels[LEVEL_WORDS];
+static uint32_t entries[GUONTREM_ENTRY_WORDS(MOST_SLOTS)], levels[LEVEL_WORDS];
 
 /* Microseconds a call, without the check of both tables. */
 static double run(enum native_coverage coverage, const struct load *load) {
-    size_t words = 4 * ((size_t)load->slots + 1);
+    size_t words = GUONTREM_ENTRY_WORDS(load->slots);
     native_coverage = coverage, native_checks = 0;
     seed_random(SEED);
     native_make(entries, words, levels, LEVEL_WORDS, DEEPEST, 10, 64, 1000000);
@@ -36,7 +36,7 @@ static double run(enum native_coverage coverage, const struct load *load) {
         uint32_t date = load->dates == CLOCK ? t : random_between(1, t);
         if (load->dates == ANY_AND_WIDE && t % WIDE_SHARE == 0) native_delete_range_dated(entries, words, levels, LEVEL_WORDS, t, 0, 65535, 1);
         else if (random_below(100) < load->percent) native_delete_range_dated(entries, words, levels, LEVEL_WORDS, t, docket, hi, date);
-        else native_put(entries, words, levels, LEVEL_WORDS, t, docket, t);
+        else native_put(entries, words, levels, LEVEL_WORDS, t, docket, t, t);
     }
     return (microseconds() - begin) / CALLS;
 }

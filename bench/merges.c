@@ -25,9 +25,9 @@ static uint32_t entries[2][GUONTREM_ENTRY_WORDS(GUONTREM_MAX_SLOTS)], levels[2][
 static struct store before = {entries[0], levels[0], 0, LEVEL_WORDS}, work = {entries[1], levels[1], 0, LEVEL_WORDS};
 
 static struct record range_at(const struct form *form, uint32_t i, uint32_t docket, uint32_t step) {
-    if (form->nested) return (struct record){RANGE_KIND, i * step, GUONTREM_MAX_DOCKET - i * step, i + 1, NOW};
-    if (i < form->wide) return (struct record){RANGE_KIND, 0, GUONTREM_MAX_DOCKET - form->wide + i, 1, NOW};
-    return (struct record){RANGE_KIND, docket, docket, NOW - 1, NOW};
+    if (form->nested) return (struct record){RANGE_KIND, i * step, GUONTREM_MAX_DOCKET - i * step, i + 1, NOW, 0};
+    if (i < form->wide) return (struct record){RANGE_KIND, 0, GUONTREM_MAX_DOCKET - form->wide + i, 1, NOW, 0};
+    return (struct record){RANGE_KIND, docket, docket, NOW - 1, NOW, 0};
 }
 
 static void lay(const struct form *form, uint32_t slots) {
@@ -37,7 +37,7 @@ static void lay(const struct form *form, uint32_t slots) {
     before.entries[0] = 0, before.entries[1] = NOW;
     for (uint32_t i = slots; i-- > 0;) {
         uint32_t docket = i / 2 * step;
-        if (i % 2 == 0) lay_record(&before, i + 1, DEEPEST, (struct record){PUT_KIND, docket, docket, i, NOW});
+        if (i % 2 == 0) lay_record(&before, i + 1, DEEPEST, (struct record){PUT_KIND, docket, docket, i, NOW, i});
         else lay_record(&before, i + 1, DEEPEST - 1, range_at(form, i / 2, docket, step / 2));
     }
 }

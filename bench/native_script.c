@@ -5,11 +5,11 @@
 #include <stdlib.h>
 #include <unistd.h>
 
-enum { MOST_SLOTS = 4000, DEEPEST = 6, MOST_FIELDS = 5, MOST_DIGITS = 10, UNREADABLE = 9 };
-/* The longest readable line has 56 bytes, so one that fills its room is of no form; the longest answer has 33. */
-enum { INPUT_ROOM = 8192, OUTPUT_ROOM = 65536, LINE_ROOM = 64, ANSWER_ROOM = 33 };
+enum { MOST_SLOTS = 3275, DEEPEST = 6, MOST_FIELDS = 5, MOST_DIGITS = 10, UNREADABLE = 9 };
+/* The longest readable line has 56 bytes, so one that fills its room is of no form; the longest answer has 44. */
+enum { INPUT_ROOM = 8192, OUTPUT_ROOM = 65536, LINE_ROOM = 64, ANSWER_ROOM = 44 };
 
-static uint32_t entries[4 * (MOST_SLOTS + 1)], levels[4 * (DEEPEST + 2)];
+static uint32_t entries[GUONTREM_ENTRY_WORDS(MOST_SLOTS)], levels[GUONTREM_LEVEL_WORDS(DEEPEST)];
 /* No words until a store was made. */
 static size_t entry_words, level_words;
 static uint8_t line[LINE_ROOM], output[OUTPUT_ROOM];
@@ -19,8 +19,8 @@ static size_t length, waiting;
 static size_t field_count(uint8_t letter) {
     switch (letter) {
     case 'M': return 5;
-    case 'Y': return 4;
-    case 'P': case 'R': return 3;
+    case 'P': case 'Y': return 4;
+    case 'R': return 3;
     case 'D': return 2;
     case 'F': case 'T': case 'G': return 1;
     default: return 0;
@@ -52,34 +52,41 @@ static bool read_line(uint32_t *numbers) {
     return at == end;
 }
 
-static struct native_answer alone(uint32_t refusal) { return (struct native_answer){refusal, 0, 0}; }
+/* The numbers that a line prints: four for a lookup, else three. */
+struct printed {
+    uint32_t count, numbers[4];
+};
+
+static struct printed alone(uint32_t refusal) { return (struct printed){3, {refusal, 0, 0}}; }
+
+static struct printed of_timed(struct native_answer a) { return (struct printed){3, {a.refusal, a.merges, a.purged}}; }
 
 /* A refused making leaves the store there was. */
-static struct native_answer run_make(const uint32_t *n) {
+static struct printed run_make(const uint32_t *n) {
     if (MOST_SLOTS < n[0]) return alone(UNREADABLE);
-    size_t words = 4 * ((size_t)n[0] + 1), rows = 4 * ((size_t)(DEEPEST < n[1] ? DEEPEST : n[1]) + 2);
+    size_t words = GUONTREM_ENTRY_WORDS(n[0]), rows = GUONTREM_LEVEL_WORDS(DEEPEST < n[1] ? DEEPEST : n[1]);
     uint32_t refusal = native_make(entries, words, levels, rows, n[1], n[2], n[3], n[4]);
     if (refusal == 0) entry_words = words, level_words = rows;
     return alone(refusal);
 }
 
-static struct native_answer run_lookup(uint32_t docket) {
+static struct printed run_lookup(uint32_t docket) {
     struct native_found f = native_lookup(entries, entry_words, levels, level_words, docket);
-    return (struct native_answer){f.refusal, f.found, f.tally};
+    return (struct printed){4, {f.refusal, f.found, f.count, f.price}};
 }
 
-static struct native_answer run_line(void) {
+static struct printed run_line(void) {
     uint32_t n[MOST_FIELDS];
     if (!read_line(n)) return alone(UNREADABLE);
     if (line[0] == 'M') return run_make(n);
     if (entry_words == 0) return alone(UNREADABLE);
     switch (line[0]) {
-    case 'P': return native_put(entries, entry_words, levels, level_words, n[0], n[1], n[2]);
-    case 'D': return native_delete(entries, entry_words, levels, level_words, n[0], n[1]);
-    case 'R': return native_delete_range(entries, entry_words, levels, level_words, n[0], n[1], n[2]);
-    case 'Y': return native_delete_range_dated(entries, entry_words, levels, level_words, n[0], n[1], n[2], n[3]);
-    case 'F': return native_flush(entries, entry_words, levels, level_words, n[0]);
-    case 'T': return native_tick(entries, entry_words, levels, level_words, n[0]);
+    case 'P': return of_timed(native_put(entries, entry_words, levels, level_words, n[0], n[1], n[2], n[3]));
+    case 'D': return of_timed(native_delete(entries, entry_words, levels, level_words, n[0], n[1]));
+    case 'R': return of_timed(native_delete_range(entries, entry_words, levels, level_words, n[0], n[1], n[2]));
+    case 'Y': return of_timed(native_delete_range_dated(entries, entry_words, levels, level_words, n[0], n[1], n[2], n[3]));
+    case 'F': return of_timed(native_flush(entries, entry_words, levels, level_words, n[0]));
+    case 'T': return of_timed(native_tick(entries, entry_words, levels, level_words, n[0]));
     default: return run_lookup(n[0]);
     }
 }
@@ -104,11 +111,9 @@ static void print_number(uint32_t number, uint8_t ending) {
 }
 
 static void end_line(void) {
-    struct native_answer answer = run_line();
+    struct printed answer = run_line();
     if (OUTPUT_ROOM - waiting < ANSWER_ROOM) write_out();
-    print_number(answer.refusal, ' ');
-    print_number(answer.merges, ' ');
-    print_number(answer.purged, '\n');
+    for (uint32_t i = 0; i < answer.count; i++) print_number(answer.numbers[i], i + 1 == answer.count ? '\n' : ' ');
     length = 0;
 }
 

@@ -2,10 +2,11 @@
 import math
 from xml.sax.saxutils import escape
 
-WIDTH, HEIGHT = 960, 440
+WIDTH, HEIGHT = 980, 440
 TOP, BOTTOM, PANEL, LEFT, GAP = 48, 388, 340, 62, 78
 LEGEND = LEFT + 2 * PANEL + GAP + 24
-COLOURS = {"mixed": "#0072b2", "lookup": "#009e73", "delete-heavy": "#d55e00", "range-heavy": "#cc79a7", "dated": "#f0e442", "full table": "#000000", "scan": "#e69f00", "check": "#56b4e9"}
+COLOURS = {"mixed": "#0072b2", "lookup": "#009e73", "grower's lookup": "#66c2a5", "delete-heavy": "#d55e00", "range-heavy": "#cc79a7", "dated": "#f0e442",
+           "full table": "#000000", "scan": "#e69f00", "grower's scan": "#a6761d", "check": "#56b4e9"}
 LINE = 'fill="none" stroke-width="1.6"'
 DASHES = ' stroke-dasharray="5 3"'
 
@@ -75,7 +76,7 @@ def legend():
         yield f'<line x1="{LEGEND}" y1="{TOP + 8 + 22 * i}" x2="{LEGEND + 22}" y2="{TOP + 8 + 22 * i}" stroke="{colour}" stroke-width="3"/>'
         yield text(LEGEND + 30, TOP + 12 + 22 * i, load, "start")
     for i, (name, dashes) in enumerate((("proved", ""), ("C", DASHES))):
-        y = TOP + 190 + 22 * i
+        y = TOP + 14 + 22 * (len(COLOURS) + i)
         yield f'<line x1="{LEGEND}" y1="{y}" x2="{LEGEND + 22}" y2="{y}" stroke="#000000" {LINE}{dashes}/>'
         yield text(LEGEND + 30, y + 4, name, "start")
 

@@ -30,10 +30,12 @@ static struct call scan_of_all(uint32_t slots) { return draw("S", 0, 1, slots); 
 
 /* Microseconds a call, on one table after the other; the answers are added up so that both can be compared. */
 static double run(call_on *f, const struct store *s, const struct size *size, uint64_t *sum) {
+    uint32_t price;
     double start = microseconds();
     for (size_t i = 0; i < size->calls; i++) {
         size_t table = i % size->tables;
-        *sum = *sum * 31 + f(&s[table], &calls[i], rows + table * size->slots);
+        const struct lent lent = {.price = &price, .rows = rows + table * size->slots};
+        *sum = *sum * 31 + f(&s[table], &calls[i], &lent);
     }
     return (microseconds() - start) / (double)size->calls;
 }
@@ -41,7 +43,7 @@ static double run(call_on *f, const struct store *s, const struct size *size, ui
 static void draw_lookups(const struct store *s, const struct size *size) {
     struct call all = scan_of_all(size->slots);
     for (uint32_t k = 0; k < size->tables; k++) {
-        uint32_t live = guontrem_scan_count(native_call(&s[k], &all, rows));
+        uint32_t live = guontrem_scan_count(native_call(&s[k], &all, &(struct lent){.rows = rows}));
         for (uint32_t i = k; i < size->calls; i += size->tables)
             calls[i] = (struct call){.kind = LOOKUP, .lo = live == 0 ? 0 : rows[random_below(live)].docket};
     }

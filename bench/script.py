@@ -23,7 +23,7 @@ def script(dockets):
         clock += rng.getrandbits(1)
         letter, lo = rng.choice(LETTERS), rng.randrange(dockets)
         hi, date = lo + rng.randint(0, WIDEST), rng.randint(1, clock)
-        numbers = {"P": (clock, lo, rng.getrandbits(32)), "D": (clock, lo), "R": (clock, lo, hi), "Y": (clock, lo, hi, date), "F": (clock,), "T": (clock,), "G": (lo,)}
+        numbers = {"P": (clock, lo, rng.getrandbits(32), rng.getrandbits(32)), "D": (clock, lo), "R": (clock, lo, hi), "Y": (clock, lo, hi, date), "F": (clock,), "T": (clock,), "G": (lo,)}
         yield " ".join(map(str, (letter, *numbers[letter])))
 
 

@@ -21,7 +21,9 @@ static enum kind kind_of(char letter) {
     case 'F': return FLUSH;
     case 'T': return TICK;
     case 'G': return LOOKUP;
+    case 'g': return LOOKUP_COUNT;
     case 'S': return SCAN;
+    case 's': return SCAN_COUNTS;
     default: return CHECK;
     }
 }
@@ -35,19 +37,19 @@ struct call draw(const char *letters, uint32_t clock, uint32_t dockets, uint32_t
         if (letter == 'W') lo = 0, hi = GUONTREM_MAX_DOCKET;
         return (struct call){.kind = kind, .clock = clock, .lo = lo, .hi = hi, .date = date};
     }
-    if (kind == SCAN) return (struct call){.kind = SCAN, .lo = 0, .hi = GUONTREM_MAX_DOCKET, .row_count = slots};
-    return (struct call){.kind = kind, .clock = clock, .lo = lo, .hi = hi < dockets ? hi : dockets - 1, .tally = random_word()};
+    if (kind == SCAN || kind == SCAN_COUNTS) return (struct call){.kind = kind, .lo = 0, .hi = GUONTREM_MAX_DOCKET, .row_count = slots};
+    return (struct call){.kind = kind, .clock = clock, .lo = lo, .hi = hi < dockets ? hi : dockets - 1, .count = random_word(), .price = random_word()};
 }
 
 void lay_record(struct store *s, uint32_t slot, uint32_t level, struct record r) {
-    uint32_t *row = s->entries + 4 * slot, *in = s->levels + 4 * (level + 1), *first = in + (r.kind == RANGE_KIND);
-    row[0] = r.kind * 65536 + *first, row[1] = r.lo | r.hi << 16, row[2] = r.word, row[3] = r.stamp;
+    uint32_t *row = s->entries + GUONTREM_SLOT_WORDS * slot, *in = s->levels + 4 * (level + 1), *first = in + (r.kind == RANGE_KIND);
+    row[0] = r.kind * 65536 + *first, row[1] = r.lo | r.hi << 16, row[2] = r.word, row[3] = r.stamp, row[4] = r.price;
     *first = slot, in[2] += 1;
     if (r.kind == RANGE_KIND) in[3] = 1;
 }
 
 static void lay_put(struct store *s, uint32_t slot, uint32_t level, uint32_t docket) {
-    lay_record(s, slot, level, (struct record){PUT_KIND, docket, docket, slot, s->entries[1]});
+    lay_record(s, slot, level, (struct record){PUT_KIND, docket, docket, slot, s->entries[1], slot});
 }
 
 /* Every slot a put of its own docket, in one of the deepest levels by turns or at random: sound tables, laid out word by word. */
@@ -67,7 +69,7 @@ static void lay_pairs(struct store *s, uint32_t deepest, uint32_t slots, enum sh
         uint32_t of = shape == PUT_TWICE ? i - i % 2 : i, docket = (uint32_t)((uint64_t)of * 65535 / slots);
         bool wide = i == 1 && shape == AND_ONE_WIDE;
         if (i % 2 == 0 || shape == PUT_TWICE) lay_put(s, i + 1, deepest - i % 2, docket);
-        else lay_record(s, i + 1, deepest - 1, (struct record){RANGE_KIND, wide ? 0 : docket, wide ? GUONTREM_MAX_DOCKET : docket, wide ? 1 : 2, 2});
+        else lay_record(s, i + 1, deepest - 1, (struct record){RANGE_KIND, wide ? 0 : docket, wide ? GUONTREM_MAX_DOCKET : docket, wide ? 1 : 2, 2, 0});
     }
 }
 
@@ -78,7 +80,7 @@ static void put_all(struct store *s, uint32_t live, int ascending) {
         uint32_t j = ascending ? i : random_below(i + 1);
         order[i] = order[j], order[j] = i;
     }
-    for (uint32_t i = 0; i < live; i++) native_call(s, &(struct call){.kind = PUT, .clock = 1, .lo = order[i], .tally = i}, NULL);
+    for (uint32_t i = 0; i < live; i++) native_call(s, &(struct call){.kind = PUT, .clock = 1, .lo = order[i], .count = i, .price = i}, NULL);
 }
 
 /* How many levels are laid out, or 0 where the tables are made by calls. */
@@ -109,11 +111,12 @@ uint32_t fill(struct store *s, enum shape shape, uint32_t slots) {
         lay_levels(s, deepest, slots, levels, shape == TWO_AT_RANDOM || shape == SEVEN_AT_RANDOM);
         return clock;
     }
+    uint32_t price;
     native_checks = 0;
     put_all(s, live, shape == PUT_ASCENDING);
     for (uint32_t i = 0; shape == MIXED && i < slots; i++) {
         struct call c = draw(mixed_calls, clock += i & 1, live, slots);
-        native_call(s, &c, NULL);
+        native_call(s, &c, &(struct lent){.price = &price});
     }
     native_checks = 1;
     return clock;

@@ -36,12 +36,12 @@ enum shape {
 extern const char mixed_calls[];
 
 /* A call at random: one of the letters of the script program, W for Y over all dockets, S for a scan of all dockets with a row for each
-   slot, C for the check. A date is any from 1 to the clock. */
+   slot, C for the check; g and s for the grower's lookup and scan. A date is any from 1 to the clock. */
 struct call draw(const char *letters, uint32_t clock, uint32_t dockets, uint32_t slots);
 
-/* A record: kind, dockets, a put's tally or a range delete's date, and stamp. */
+/* A record: kind, dockets, a put's count or a range delete's date, stamp, and a put's price. */
 struct record {
-    uint32_t kind, lo, hi, word, stamp;
+    uint32_t kind, lo, hi, word, stamp, price;
 };
 enum { PUT_KIND = 1, RANGE_KIND = 3 };
 

@@ -1,4 +1,4 @@
-/* Guontrem: tallies by docket, in two tables of 32-bit words that the caller lends.
+/* Guontrem: tallies by docket, each a count and a price, in two tables of 32-bit words that the caller lends.
 
    Every function of the library is proved: on tables of any content, and with any numbers, it ends without fault, answers as said
    here and writes no word but those said here. What this header adds as inline functions, parts of an answer, readers and wrappers, is
@@ -6,8 +6,9 @@
 
    What a caller must see to:
    - A table is a pointer and a count of words. The pointer is not null, also where the count is 0, and is aligned to 4 bytes.
-   - The entry table, the level table and the rows of a scan do not overlap.
-   - No other call writes the tables meanwhile. Calls that only read (check, lookup, scan, the readers) may run at the same time.
+   - The entry table, the level table, the word for a lookup's price and the rows of a scan do not overlap. The pointer to that word is not
+     null either, and is aligned to 4 bytes.
+   - No other call writes the tables meanwhile. Calls that only read (check, lookups, scans, the readers) may run at the same time.
    A call allocates nothing, keeps nothing between calls and needs about 9 KiB of stack; of the C library it needs memset.
 
    The plain functions take both tables with their lengths. From "A store as one struct" on, the same calls take a struct that has them:
@@ -17,7 +18,10 @@
 
        struct guontrem_settings settings = {3, 2, 4, 60};
        if (guontrem_store_make(&store, settings) != GUONTREM_ACCEPTED) ...
-       if (guontrem_store_put(&store, clock, docket, tally).refusal == GUONTREM_FULL) ... */
+       if (guontrem_store_put(&store, clock, docket, count, price).refusal == GUONTREM_FULL) ...
+
+   A grower's terminal gets guontrem_lookup_count and guontrem_scan_counts alone: what they answer, and the rows that they fill, have counts
+   and stamps, no price, and nothing that hangs on one. Two stores whose puts differ in price alone answer both alike. */
 #ifndef GUONTREM_H
 #define GUONTREM_H
 
@@ -28,10 +32,10 @@
 extern "C" {
 #endif
 
-/* The version, for `#if 9 <= GUONTREM_VERSION`. MAJOR is 0 until the first release; MINOR grows by one with every change that a caller
+/* The version, for `#if 10 <= GUONTREM_VERSION`. MAJOR is 0 until the first release; MINOR grows by one with every change that a caller
    can see: a name, an answer, a refusal or a word of the tables. */
 #define GUONTREM_VERSION_MAJOR 0
-#define GUONTREM_VERSION_MINOR 9
+#define GUONTREM_VERSION_MINOR 10
 #define GUONTREM_VERSION (1000 * GUONTREM_VERSION_MAJOR + GUONTREM_VERSION_MINOR)
 
 /* N, the slots: one record each. */
@@ -54,11 +58,12 @@ extern "C" {
 #define GUONTREM_MIN_TERM 1
 #define GUONTREM_MAX_TERM UINT32_MAX
 
-/* Dockets are 0 to this one; tallies are any 32 bits. */
+/* Dockets are 0 to this one; counts and prices are any 32 bits. */
 #define GUONTREM_MAX_DOCKET 65535
 
-/* Words of the entry table for N slots and of the level table for the deepest level L. */
-#define GUONTREM_ENTRY_WORDS(slots) (4 * ((size_t)(slots) + 1))
+/* Words of a slot, of the entry table for N slots and of the level table for the deepest level L. */
+#define GUONTREM_SLOT_WORDS 5
+#define GUONTREM_ENTRY_WORDS(slots) (GUONTREM_SLOT_WORDS * ((size_t)(slots) + 1))
 #define GUONTREM_LEVEL_WORDS(deepest) (4 * ((size_t)(deepest) + 2))
 
 /* Why a call is refused. Where two apply, the one that the function names first is the answer. */
@@ -95,11 +100,11 @@ uint32_t guontrem_check(const uint32_t *entries, size_t entry_words, const uint3
    are merged down, which no lookup and no scan can tell, and the last clock is as it was.
    Erasure, in a store that guontrem_make made and only these calls changed: once a delete was accepted and has left the buffer (in
    its own call or a later one), and a call D or more ticks after it was accepted, both tables are word for word what they would be
-   had an earlier put that the delete covers carried any other tally. */
+   had an earlier put that the delete covers carried any other count or price. */
 
-/* Puts a docket's tally, in place of the one it had. */
+/* Puts a docket's count and price, in place of those it had. */
 uint64_t guontrem_put(uint32_t *entries, size_t entry_words, uint32_t *levels, size_t level_words,
-                      uint32_t clock, uint32_t docket, uint32_t tally);
+                      uint32_t clock, uint32_t docket, uint32_t count, uint32_t price);
 
 /* Deletes a docket, live or not; never refused for lack of a slot. */
 uint64_t guontrem_delete(uint32_t *entries, size_t entry_words, uint32_t *levels, size_t level_words,
@@ -121,15 +126,16 @@ uint64_t guontrem_flush(uint32_t *entries, size_t entry_words, uint32_t *levels,
 uint64_t guontrem_tick(uint32_t *entries, size_t entry_words, uint32_t *levels, size_t level_words, uint32_t clock);
 
 /* Looks a docket up.
-   Answers a number to be read by guontrem_lookup_refusal, _found, _tally and _stamp.
+   Answers a number to be read by guontrem_lookup_refusal, _found, _count_of and _stamp, and the price in the lent word: 0 where the docket
+   is absent or the lookup refused.
    Refusals: ENTRY_LENGTH, LEVEL_TABLE, UNSOUND, DOCKET, in this order.
    Tables: as they were. */
 uint64_t guontrem_lookup(const uint32_t *entries, size_t entry_words, const uint32_t *levels, size_t level_words,
-                         uint32_t docket);
+                         uint32_t docket, uint32_t *price);
 
-/* A live docket, its tally and the clock of the put. */
+/* A live docket, its count and price, and the clock of the put. */
 struct guontrem_row {
-    uint32_t docket, tally, stamp;
+    uint32_t docket, count, price, stamp;
 };
 
 /* Fills rows with the live dockets from lo to hi, ascending, as many as there is room for; row_count may be 0.
@@ -138,6 +144,19 @@ struct guontrem_row {
    Tables: as they were. Rows past the count, and all rows of a refused scan: as they were. */
 uint64_t guontrem_scan(const uint32_t *entries, size_t entry_words, const uint32_t *levels, size_t level_words,
                        uint32_t lo, uint32_t hi, struct guontrem_row *rows, size_t row_count);
+
+/* The grower's lookup: guontrem_lookup without the price. Its number is the same, and so are its readers and refusals. */
+uint64_t guontrem_lookup_count(const uint32_t *entries, size_t entry_words, const uint32_t *levels, size_t level_words,
+                               uint32_t docket);
+
+/* A live docket, its count and the clock of the put. */
+struct guontrem_count_row {
+    uint32_t docket, count, stamp;
+};
+
+/* The grower's scan: guontrem_scan into rows without the price. Its number is the same, and so are its readers and refusals. */
+uint64_t guontrem_scan_counts(const uint32_t *entries, size_t entry_words, const uint32_t *levels, size_t level_words,
+                              uint32_t lo, uint32_t hi, struct guontrem_count_row *rows, size_t row_count);
 
 /* The readers of answers: each gives its part of every answer of every call. crates/c_packing/specs/Readers.antt defines what they
    compute, and crates/c_packing/proofs/ReadBack.antt proves it of that. */
@@ -151,17 +170,18 @@ static inline uint32_t guontrem_timed_merges(uint64_t answer) { return (uint32_t
 /* How many records went: held before + written - held after. */
 static inline uint32_t guontrem_timed_purged(uint64_t answer) { return (uint32_t)answer; }
 
-/* A lookup's answer. Absent or refused: found, tally and stamp are 0. */
+/* A lookup's answer, the hall's or the grower's. Absent or refused: found, count and stamp are 0. */
 static inline int guontrem_lookup_found(uint64_t answer) { return answer >> 32 != 0; }
 
 static inline uint32_t guontrem_lookup_refusal(uint64_t answer) { return guontrem_lookup_found(answer) ? 0 : (uint32_t)answer; }
 
-static inline uint32_t guontrem_lookup_tally(uint64_t answer) { return guontrem_lookup_found(answer) ? (uint32_t)answer : 0; }
+/* Not guontrem_lookup_count, which is the grower's call. */
+static inline uint32_t guontrem_lookup_count_of(uint64_t answer) { return guontrem_lookup_found(answer) ? (uint32_t)answer : 0; }
 
 /* The clock of the put that is found. */
 static inline uint32_t guontrem_lookup_stamp(uint64_t answer) { return (uint32_t)(answer >> 32); }
 
-/* A scan's answer. Refused: count, more and next are 0. */
+/* A scan's answer, the hall's or the grower's. Refused: count, more and next are 0. */
 static inline uint32_t guontrem_scan_refusal(uint64_t answer) { return (uint32_t)(answer >> 56); }
 
 /* How many rows were filled. */
@@ -181,9 +201,9 @@ static inline uint32_t guontrem_read_clock(const uint32_t *entries, size_t entry
 
 /* N, the slots, by the entry table's length; 0 where it is the length for no allowed N. */
 static inline uint32_t guontrem_read_slots(size_t entry_words) {
-    int allowed = entry_words % 4 == 0 && GUONTREM_ENTRY_WORDS(GUONTREM_MIN_SLOTS) <= entry_words &&
+    int allowed = entry_words % GUONTREM_SLOT_WORDS == 0 && GUONTREM_ENTRY_WORDS(GUONTREM_MIN_SLOTS) <= entry_words &&
                   entry_words <= GUONTREM_ENTRY_WORDS(GUONTREM_MAX_SLOTS);
-    return allowed ? (uint32_t)(entry_words / 4 - 1) : 0;
+    return allowed ? (uint32_t)(entry_words / GUONTREM_SLOT_WORDS - 1) : 0;
 }
 
 /* L, T, B and D. */
@@ -207,7 +227,13 @@ struct guontrem_timed_answer {
 struct guontrem_lookup_answer {
     uint32_t refusal;
     int found;
-    uint32_t tally, stamp;
+    uint32_t count, price, stamp;
+};
+
+struct guontrem_count_answer {
+    uint32_t refusal;
+    int found;
+    uint32_t count, stamp;
 };
 
 struct guontrem_scan_answer {
@@ -221,9 +247,15 @@ static inline struct guontrem_timed_answer guontrem_timed_parts(uint64_t answer)
     return parts;
 }
 
-static inline struct guontrem_lookup_answer guontrem_lookup_parts(uint64_t answer) {
+static inline struct guontrem_lookup_answer guontrem_lookup_parts(uint64_t answer, uint32_t price) {
     struct guontrem_lookup_answer parts = {guontrem_lookup_refusal(answer), guontrem_lookup_found(answer),
-                                           guontrem_lookup_tally(answer), guontrem_lookup_stamp(answer)};
+                                           guontrem_lookup_count_of(answer), price, guontrem_lookup_stamp(answer)};
+    return parts;
+}
+
+static inline struct guontrem_count_answer guontrem_count_parts(uint64_t answer) {
+    struct guontrem_count_answer parts = {guontrem_lookup_refusal(answer), guontrem_lookup_found(answer),
+                                          guontrem_lookup_count_of(answer), guontrem_lookup_stamp(answer)};
     return parts;
 }
 
@@ -257,9 +289,9 @@ static inline uint32_t guontrem_store_check(const struct guontrem_store *store) 
 }
 
 static inline struct guontrem_timed_answer guontrem_store_put(struct guontrem_store *store, uint32_t clock, uint32_t docket,
-                                                              uint32_t tally) {
+                                                              uint32_t count, uint32_t price) {
     return guontrem_timed_parts(
-        guontrem_put(store->entries, store->entry_words, store->levels, store->level_words, clock, docket, tally));
+        guontrem_put(store->entries, store->entry_words, store->levels, store->level_words, clock, docket, count, price));
 }
 
 static inline struct guontrem_timed_answer guontrem_store_delete(struct guontrem_store *store, uint32_t clock, uint32_t docket) {
@@ -288,13 +320,26 @@ static inline struct guontrem_timed_answer guontrem_store_tick(struct guontrem_s
 }
 
 static inline struct guontrem_lookup_answer guontrem_store_lookup(const struct guontrem_store *store, uint32_t docket) {
-    return guontrem_lookup_parts(guontrem_lookup(store->entries, store->entry_words, store->levels, store->level_words, docket));
+    uint32_t price = 0;
+    uint64_t answer = guontrem_lookup(store->entries, store->entry_words, store->levels, store->level_words, docket, &price);
+    return guontrem_lookup_parts(answer, price);
 }
 
 static inline struct guontrem_scan_answer guontrem_store_scan(const struct guontrem_store *store, uint32_t lo, uint32_t hi,
                                                               struct guontrem_row *rows, size_t row_count) {
     return guontrem_scan_parts(
         guontrem_scan(store->entries, store->entry_words, store->levels, store->level_words, lo, hi, rows, row_count));
+}
+
+static inline struct guontrem_count_answer guontrem_store_lookup_count(const struct guontrem_store *store, uint32_t docket) {
+    return guontrem_count_parts(
+        guontrem_lookup_count(store->entries, store->entry_words, store->levels, store->level_words, docket));
+}
+
+static inline struct guontrem_scan_answer guontrem_store_scan_counts(const struct guontrem_store *store, uint32_t lo, uint32_t hi,
+                                                                     struct guontrem_count_row *rows, size_t row_count) {
+    return guontrem_scan_parts(
+        guontrem_scan_counts(store->entries, store->entry_words, store->levels, store->level_words, lo, hi, rows, row_count));
 }
 
 static inline uint32_t guontrem_store_clock(const struct guontrem_store *store) {

@@ -3,7 +3,7 @@
 
 #include "guontrem.h"
 
-enum kind { MAKE, CHECK, LOOKUP, SCAN, PUT, DELETE, DELETE_RANGE, DELETE_RANGE_DATED, FLUSH, TICK, KINDS };
+enum kind { MAKE, CHECK, LOOKUP, LOOKUP_COUNT, SCAN, SCAN_COUNTS, PUT, DELETE, DELETE_RANGE, DELETE_RANGE_DATED, FLUSH, TICK, KINDS };
 
 /* Two lent tables of any lengths and content. */
 struct store {
@@ -18,14 +18,21 @@ struct settings {
 /* What a kind has no use for is not looked at. */
 struct call {
     enum kind kind;
-    uint32_t clock, lo, hi, date, tally;
+    uint32_t clock, lo, hi, date, count, price;
     size_t row_count;
     struct settings settings;
 };
 
-typedef uint64_t call_on(const struct store *s, const struct call *c, struct guontrem_row *rows);
+/* What is lent beside the tables: a word to the hall's lookup, rows to a scan, of one kind to the hall's and of the other to the grower's. */
+struct lent {
+    uint32_t *price;
+    struct guontrem_row *rows;
+    struct guontrem_count_row *count_rows;
+};
 
-/* A call by the archive and the same in plain C, each answered by the archive's number; rows are for a scan alone. */
+typedef uint64_t call_on(const struct store *s, const struct call *c, const struct lent *lent);
+
+/* A call by the archive and the same in plain C, each answered by the archive's number; a call that is lent nothing more takes a null. */
 call_on proved_call, native_call;
 
 #endif

@@ -6,7 +6,7 @@
 #include <stdbool.h>
 #include <string.h>
 
-enum { PUT = 1, DELETE = 2, RANGE = 3, LAST_DOCKET = 65535, MOST_LEVELS = 7 };
+enum { PUT = 1, DELETE = 2, RANGE = 3, LAST_DOCKET = 65535, MOST_LEVELS = 7, WORDS = GUONTREM_SLOT_WORDS };
 
 enum native_coverage native_coverage = NATIVE_TWO_PLACES;
 int native_checks = 1;
@@ -15,18 +15,24 @@ struct level {
     uint32_t points, ranges, held, owed;
 };
 
-static uint32_t next_of(const uint32_t *e, uint32_t s) { return e[4 * s] & 65535; }
-static uint32_t kind_of(const uint32_t *e, uint32_t s) { return e[4 * s] >> 16; }
-static uint32_t lo_of(const uint32_t *e, uint32_t s) { return e[4 * s + 1] & 65535; }
-static uint32_t hi_of(const uint32_t *e, uint32_t s) { return e[4 * s + 1] >> 16; }
-static uint32_t date_of(const uint32_t *e, uint32_t s) { return e[4 * s + 2]; }
-static uint32_t stamp_of(const uint32_t *e, uint32_t s) { return e[4 * s + 3]; }
+static uint32_t next_of(const uint32_t *e, uint32_t s) { return e[WORDS * s] & 65535; }
+static uint32_t kind_of(const uint32_t *e, uint32_t s) { return e[WORDS * s] >> 16; }
+static uint32_t lo_of(const uint32_t *e, uint32_t s) { return e[WORDS * s + 1] & 65535; }
+static uint32_t hi_of(const uint32_t *e, uint32_t s) { return e[WORDS * s + 1] >> 16; }
+static uint32_t count_of(const uint32_t *e, uint32_t s) { return e[WORDS * s + 2]; }
+static uint32_t date_of(const uint32_t *e, uint32_t s) { return e[WORDS * s + 2]; }
+static uint32_t stamp_of(const uint32_t *e, uint32_t s) { return e[WORDS * s + 3]; }
+static uint32_t price_of(const uint32_t *e, uint32_t s) { return e[WORDS * s + 4]; }
 static uint32_t key_of(const uint32_t *e, uint32_t s) { return lo_of(e, s) << 16 | hi_of(e, s); }
 
-static void set_next(uint32_t *e, uint32_t s, uint32_t next) { e[4 * s] = (e[4 * s] & ~65535u) | next; }
+static void set_next(uint32_t *e, uint32_t s, uint32_t next) { e[WORDS * s] = (e[WORDS * s] & ~65535u) | next; }
+
+static void set_tally(uint32_t *e, uint32_t s, uint32_t count, uint32_t price, uint32_t stamp) {
+    e[WORDS * s + 2] = count, e[WORDS * s + 3] = stamp, e[WORDS * s + 4] = price;
+}
 
 static void release(uint32_t *e, uint32_t s) {
-    e[4 * s] = e[0], e[4 * s + 1] = e[4 * s + 2] = e[4 * s + 3] = 0;
+    e[WORDS * s] = e[0], e[WORDS * s + 1] = e[WORDS * s + 2] = e[WORDS * s + 3] = e[WORDS * s + 4] = 0;
     e[0] = s;
 }
 
@@ -95,7 +101,7 @@ static uint32_t merge_ranges(uint32_t *e, uint32_t x, uint32_t y, uint32_t *gone
         if (y == 0 || (x != 0 && key_of(e, x) < key_of(e, y))) {
             at = x, x = next_of(e, x);
         } else if (x != 0 && key_of(e, x) == key_of(e, y)) {
-            e[4 * x + 2] = later(date_of(e, x), date_of(e, y)), e[4 * x + 3] = later(stamp_of(e, x), stamp_of(e, y));
+            e[WORDS * x + 2] = later(date_of(e, x), date_of(e, y)), e[WORDS * x + 3] = later(stamp_of(e, x), stamp_of(e, y));
             at = y, y = next_of(e, y);
             release(e, at), ++*gone;
             continue;
@@ -201,73 +207,78 @@ static uint32_t insert(uint32_t *e, uint32_t head, uint32_t slot) {
     return head;
 }
 
-/* The date up to which a write makes points go: put and delete go by docket alone. */
-static uint32_t date_in(uint32_t kind, uint32_t word) { return kind == RANGE ? word : UINT32_MAX; }
+/* What a write puts into its slot; the word is a put's count or a range delete's date. */
+struct record {
+    uint32_t kind, lo, hi, word, price;
+};
 
-/* The word is a put's tally or a range delete's date. */
-static void enter(uint32_t *e, uint32_t *l, uint32_t clock, uint32_t kind, uint32_t lo, uint32_t hi, uint32_t word) {
+/* The date up to which a write makes points go: put and delete go by docket alone. */
+static uint32_t date_in(struct record r) { return r.kind == RANGE ? r.word : UINT32_MAX; }
+
+static void enter(uint32_t *e, uint32_t *l, uint32_t clock, struct record r) {
     struct level *b = row(l, 0);
     uint32_t gone = 0;
-    b->points = drop(e, b->points, lo, hi, date_in(kind, word), false, &gone);
-    if (kind == RANGE) {
-        uint32_t same = find_span(e, b->ranges, lo, hi), prior = 0;
+    b->points = drop(e, b->points, r.lo, r.hi, date_in(r), false, &gone);
+    if (r.kind == RANGE) {
+        uint32_t same = find_span(e, b->ranges, r.lo, r.hi), prior = 0;
         if (same != 0) {
             for (uint32_t at = b->ranges; at != same; at = next_of(e, at)) prior = at;
             if (prior != 0) set_next(e, prior, next_of(e, same));
             else b->ranges = next_of(e, same);
-            word = later(word, date_of(e, same));
+            r.word = later(r.word, date_of(e, same));
             release(e, same), gone++;
         }
     }
     uint32_t slot = e[0];
     e[0] = next_of(e, slot);
-    e[4 * slot] = kind << 16, e[4 * slot + 1] = lo | hi << 16, e[4 * slot + 2] = word, e[4 * slot + 3] = clock;
-    if (kind == RANGE) b->ranges = insert(e, b->ranges, slot);
+    e[WORDS * slot] = r.kind << 16, e[WORDS * slot + 1] = r.lo | r.hi << 16;
+    set_tally(e, slot, r.word, r.price, clock);
+    if (r.kind == RANGE) b->ranges = insert(e, b->ranges, slot);
     else b->points = insert(e, b->points, slot);
     b->held = b->held + 1 - gone;
-    if (kind != PUT) b->owed = earlier(clock, b->owed);
+    if (r.kind != PUT) b->owed = earlier(clock, b->owed);
 }
 
-static struct native_answer call_write(uint32_t *e, size_t ne, uint32_t *l, size_t nl, uint32_t clock, uint32_t kind, uint32_t lo, uint32_t hi, uint32_t word) {
-    uint32_t refusal = refusal_of(e, ne, l, nl, clock, lo, hi), date = date_in(kind, word);
+static struct native_answer call_write(uint32_t *e, size_t ne, uint32_t *l, size_t nl, uint32_t clock, struct record r) {
+    uint32_t refusal = refusal_of(e, ne, l, nl, clock, r.lo, r.hi), date = date_in(r);
     if (refusal != 0) return refused(refusal);
-    if (kind == RANGE && (date == 0 || clock < date)) return refused(10);
+    if (r.kind == RANGE && (date == 0 || clock < date)) return refused(10);
     uint32_t before = held_all(l) + 1, merges = 0;
     struct level *b = row(l, 0);
-    if (e[0] == 0 && !frees_point(e, b->points, lo, hi, date) && !(kind == RANGE && find_span(e, b->ranges, lo, hi) != 0)) {
+    if (e[0] == 0 && !frees_point(e, b->points, r.lo, r.hi, date) && !(r.kind == RANGE && find_span(e, b->ranges, r.lo, r.hi) != 0)) {
         for (uint32_t i = 0; i < l[0]; i++) merges += merge_level(e, l, i);
         if (e[0] == 0) {
             struct level *deep = row(l, l[0]);
             uint32_t gone = 0;
-            if (kind == PUT) {
-                uint32_t slot = find_span(e, deep->points, lo, lo);
+            if (r.kind == PUT) {
+                uint32_t slot = find_span(e, deep->points, r.lo, r.lo);
                 if (slot == 0) return refused(7);
-                e[4 * slot + 2] = word, e[4 * slot + 3] = clock;
+                set_tally(e, slot, r.word, r.price, clock);
             } else {
-                deep->points = drop(e, deep->points, lo, hi, date, false, &gone);
+                deep->points = drop(e, deep->points, r.lo, r.hi, date, false, &gone);
                 deep->held -= gone;
             }
             return finish(e, l, clock, before, merges);
         }
     }
-    enter(e, l, clock, kind, lo, hi, word);
+    enter(e, l, clock, r);
     return finish(e, l, clock, before, merges);
 }
 
-struct native_answer native_put(uint32_t *e, size_t ne, uint32_t *l, size_t nl, uint32_t clock, uint32_t docket, uint32_t tally) {
-    return call_write(e, ne, l, nl, clock, PUT, docket, docket, tally);
+struct native_answer native_put(uint32_t *e, size_t ne, uint32_t *l, size_t nl, uint32_t clock, uint32_t docket, uint32_t count, uint32_t price) {
+    return call_write(e, ne, l, nl, clock, (struct record){PUT, docket, docket, count, price});
 }
 
 struct native_answer native_delete(uint32_t *e, size_t ne, uint32_t *l, size_t nl, uint32_t clock, uint32_t docket) {
-    return call_write(e, ne, l, nl, clock, DELETE, docket, docket, 0);
+    return call_write(e, ne, l, nl, clock, (struct record){DELETE, docket, docket, 0, 0});
 }
 
 struct native_answer native_delete_range(uint32_t *e, size_t ne, uint32_t *l, size_t nl, uint32_t clock, uint32_t lo, uint32_t hi) {
-    return call_write(e, ne, l, nl, clock, RANGE, lo, hi, clock);
+    return call_write(e, ne, l, nl, clock, (struct record){RANGE, lo, hi, clock, 0});
 }
 
 struct native_answer native_delete_range_dated(uint32_t *e, size_t ne, uint32_t *l, size_t nl, uint32_t clock, uint32_t lo, uint32_t hi, uint32_t date) {
-    return call_write(e, ne, l, nl, clock, RANGE, lo, hi, date);
+    return call_write(e, ne, l, nl, clock, (struct record){RANGE, lo, hi, date, 0});
 }
 
 struct native_answer native_flush(uint32_t *e, size_t ne, uint32_t *l, size_t nl, uint32_t clock) {
@@ -284,13 +295,13 @@ struct native_answer native_tick(uint32_t *e, size_t ne, uint32_t *l, size_t nl,
 }
 
 uint32_t native_make(uint32_t *e, size_t ne, uint32_t *l, size_t nl, uint32_t deepest, uint32_t ratio, uint32_t buffer, uint32_t term) {
-    if (ne % 4 != 0 || ne < 8 || 262144 < ne) return 1;
+    if (ne % 5 != 0 || ne < 10 || 327680 < ne) return 1;
     if (deepest < 2 || 6 < deepest || ratio < 2 || 10 < ratio || buffer < 1 || 64 < buffer || term < 1) return 6;
     if (nl != 4 * ((size_t)deepest + 2)) return 2;
-    uint32_t slots = (uint32_t)(ne / 4 - 1);
+    uint32_t slots = (uint32_t)(ne / 5 - 1);
     memset(e, 0, ne * sizeof *e);
     memset(l, 0, nl * sizeof *l);
-    for (uint32_t s = 0; s < slots; s++) e[4 * s] = s + 1;
+    for (uint32_t s = 0; s < slots; s++) e[WORDS * s] = s + 1;
     l[0] = deepest, l[1] = ratio, l[2] = buffer, l[3] = term;
     return 0;
 }
@@ -303,16 +314,31 @@ static uint32_t latest_date(const uint32_t *e, uint32_t r, uint32_t docket) {
     return latest;
 }
 
-struct native_found native_lookup(const uint32_t *e, size_t ne, const uint32_t *l, size_t nl, uint32_t docket) {
-    struct native_found absent = {native_checks ? native_check(e, ne, l, nl) : 0, 0, 0, 0};
-    if (absent.refusal == 0 && docket > LAST_DOCKET) absent.refusal = 4;
-    for (uint32_t i = 0, latest = 0; absent.refusal == 0 && i <= l[0]; i++) {
+static uint32_t refusal_of_reading(const uint32_t *e, size_t ne, const uint32_t *l, size_t nl, uint32_t lo, uint32_t hi) {
+    uint32_t refusal = native_checks ? native_check(e, ne, l, nl) : 0;
+    return refusal == 0 && (hi > LAST_DOCKET || hi < lo) ? 4 : refusal;
+}
+
+/* The slot of a live docket, or none. */
+static uint32_t find_live(const uint32_t *e, const uint32_t *l, uint32_t docket) {
+    for (uint32_t i = 0, latest = 0; i <= l[0]; i++) {
         uint32_t points = l[4 * (i + 1)], ranges = l[4 * (i + 1) + 1], at = find_within(e, points, docket, docket);
-        if (at != 0 && kind_of(e, at) == PUT && latest < stamp_of(e, at)) return (struct native_found){0, 1, e[4 * at + 2], e[4 * at + 3]};
-        if (at != 0) break;
+        if (at != 0) return kind_of(e, at) == PUT && latest < stamp_of(e, at) ? at : 0;
         latest = later(latest, latest_date(e, ranges, docket));
     }
-    return absent;
+    return 0;
+}
+
+struct native_found native_lookup(const uint32_t *e, size_t ne, const uint32_t *l, size_t nl, uint32_t docket) {
+    uint32_t refusal = refusal_of_reading(e, ne, l, nl, docket, docket), slot = refusal == 0 ? find_live(e, l, docket) : 0;
+    if (slot == 0) return (struct native_found){.refusal = refusal};
+    return (struct native_found){.found = 1, .count = count_of(e, slot), .price = price_of(e, slot), .stamp = stamp_of(e, slot)};
+}
+
+struct native_counted native_lookup_count(const uint32_t *e, size_t ne, const uint32_t *l, size_t nl, uint32_t docket) {
+    uint32_t refusal = refusal_of_reading(e, ne, l, nl, docket, docket), slot = refusal == 0 ? find_live(e, l, docket) : 0;
+    if (slot == 0) return (struct native_counted){.refusal = refusal};
+    return (struct native_counted){.found = 1, .count = count_of(e, slot), .stamp = stamp_of(e, slot)};
 }
 
 /* Where a scan stands in one level: the next point and its docket, and the ranges. */
@@ -345,9 +371,10 @@ static uint32_t pass_docket(const uint32_t *e, struct cursor *at, uint32_t deepe
     return slot;
 }
 
-struct native_scanned native_scan(const uint32_t *e, size_t ne, const uint32_t *l, size_t nl, uint32_t lo, uint32_t hi, struct guontrem_row *rows, size_t row_count) {
-    struct native_scanned answer = {native_checks ? native_check(e, ne, l, nl) : 0, 0, 0, 0};
-    if (answer.refusal == 0 && (hi > LAST_DOCKET || hi < lo)) answer.refusal = 4;
+/* Fills the one or the other rows; a copy of this is made for each. */
+static inline struct native_scanned sweep(const uint32_t *e, size_t ne, const uint32_t *l, size_t nl, uint32_t lo, uint32_t hi, struct guontrem_row *rows,
+                                          struct guontrem_count_row *count_rows, size_t row_count) {
+    struct native_scanned answer = {refusal_of_reading(e, ne, l, nl, lo, hi), 0, 0, 0};
     if (answer.refusal != 0) return answer;
     struct cursor at[MOST_LEVELS];
     for (uint32_t i = 0; i <= l[0]; i++) {
@@ -361,7 +388,17 @@ struct native_scanned native_scan(const uint32_t *e, size_t ne, const uint32_t *
             answer.more = 1, answer.next = docket;
             break;
         }
-        rows[answer.count++] = (struct guontrem_row){.docket = docket, .tally = e[4 * slot + 2], .stamp = e[4 * slot + 3]};
+        if (count_rows != NULL) count_rows[answer.count++] = (struct guontrem_count_row){docket, count_of(e, slot), stamp_of(e, slot)};
+        else rows[answer.count++] = (struct guontrem_row){docket, count_of(e, slot), price_of(e, slot), stamp_of(e, slot)};
     }
     return answer;
+}
+
+struct native_scanned native_scan(const uint32_t *e, size_t ne, const uint32_t *l, size_t nl, uint32_t lo, uint32_t hi, struct guontrem_row *rows, size_t row_count) {
+    return sweep(e, ne, l, nl, lo, hi, rows, NULL, row_count);
+}
+
+struct native_scanned native_scan_counts(const uint32_t *e, size_t ne, const uint32_t *l, size_t nl, uint32_t lo, uint32_t hi, struct guontrem_count_row *rows,
+                                         size_t row_count) {
+    return sweep(e, ne, l, nl, lo, hi, NULL, rows, row_count);
 }

@@ -15,8 +15,8 @@ from plain_map import PlainMap
 ROOT = pathlib.Path(__file__).parent.parent
 PROGRAM = ROOT / "target" / "bin" / "run_script"
 FAILING = ROOT / "target" / "failing"
-LARGEST, LAST_DOCKET, MOST_SLOTS = 4294967295, 65535, 4000
-FIELDS = {"M": 5, "P": 3, "D": 2, "R": 3, "Y": 4, "F": 1, "T": 1, "G": 1}
+LARGEST, LAST_DOCKET, MOST_SLOTS = 4294967295, 65535, 3275
+FIELDS = {"M": 5, "P": 4, "D": 2, "R": 3, "Y": 4, "F": 1, "T": 1, "G": 1}
 FORM = re.compile(rb"[MPDRYFTG]( [0-9]{1,10})+")
 NO_FORM = (9, 0, 0)
 PATIENCE = 60   # seconds after which a program that should have answered or ended is stuck
@@ -48,8 +48,8 @@ class Model:
     def print_script(self, script):
         answers = [self.answer(line) for line in lines_of(script)]
         self.counts["lines"] += len(answers)
-        self.counts.update(refusal for refusal, _, _ in answers)
-        return b"".join(b"%d %d %d\n" % answer for answer in answers)
+        self.counts.update(answer[0] for answer in answers)
+        return "".join(" ".join(map(str, answer)) + "\n" for answer in answers).encode("ascii")
 
     def answer(self, line):
         said = read_line(line)
@@ -77,13 +77,14 @@ class Model:
         return answer
 
     def lookup(self, docket):
+        """Four numbers, also where it is refused."""
         if docket > LAST_DOCKET:
-            return (4, 0, 0)
-        found, tally, stamp = self.map.lookup(docket)
-        if self.store.lookup(docket) != (found, tally, stamp):
+            return (4, 0, 0, 0)
+        found, count, price, stamp = self.map.lookup(docket)
+        if self.store.lookup(docket) != (found, count, price, stamp):
             self.disagreements.append(("G", docket))
         self.counts["found" if found else "absent"] += 1
-        return (0, found, tally)
+        return (0, found, count, price)
 
 
 # Most slots, most lines, and how often such a store is drawn: to the plain steps, full tables of many slots are dear.
@@ -139,9 +140,9 @@ class Load:
         return max(1, self.rng.choice((self.clock, self.clock - 1, self.clock // 2, 1, old, old, old, old - 1)))
 
     def call(self, letter, clock, lo, hi, date=1):
-        """The last number is a put's tally, a range's end or its date."""
-        tally = self.rng.choice((self.rng.getrandbits(32), self.rng.randrange(10), LARGEST))
-        numbers = {"P": (clock, lo, tally), "D": (clock, lo), "R": (clock, lo, hi), "Y": (clock, lo, hi, date), "F": (clock,), "T": (clock,), "G": (lo,)}
+        """Behind the dockets stand a put's count and price, or a range's date."""
+        count, price = (self.rng.choice((self.rng.getrandbits(32), self.rng.randrange(10), LARGEST)) for _ in range(2))
+        numbers = {"P": (clock, lo, count, price), "D": (clock, lo), "R": (clock, lo, hi), "Y": (clock, lo, hi, date), "F": (clock,), "T": (clock,), "G": (lo,)}
         return self.show(letter, *numbers[letter])
 
     def show(self, letter, *numbers):

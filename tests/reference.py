@@ -1,11 +1,12 @@
-"""Document 01's steps with request S-1, written plainly: levels are lists of records, no tables and no chains."""
+"""Document 01's steps with requests S-1 and S-2, written plainly: levels are lists of records, no tables and no chains."""
 
 PUT, DELETE, RANGE = 1, 2, 3
+NO_TALLY = (0, 0)
 
 
 class Level:
     def __init__(self):
-        self.points = {}   # docket -> (kind, tally, stamp)
+        self.points = {}   # docket -> (kind, tally, stamp), a tally being a count and a price
         self.ranges = {}   # (lo, hi) -> (date, stamp)
         self.owed = 0
 
@@ -89,9 +90,9 @@ class Store:
         if written:
             w = Level()
             if op == 'P':
-                w.points[args[0]] = (PUT, args[1], t)
+                w.points[args[0]] = (PUT, args[1:3], t)
             elif op == 'D':
-                w.points[args[0]] = (DELETE, 0, t)
+                w.points[args[0]] = (DELETE, NO_TALLY, t)
                 w.owed = t
             else:
                 w.ranges[(args[0], args[1])] = (args[2] if op == 'Y' else t, t)
@@ -107,7 +108,7 @@ class Store:
                 if op == 'P':
                     if args[0] not in deep.points:
                         return (7, 0, 0)
-                    deep.points[args[0]] = (PUT, args[1], t)
+                    deep.points[args[0]] = (PUT, args[1:3], t)
                 else:
                     deep.points = {k: p for k, p in deep.points.items() if not self.goes(w, k, p[2])}
             else:
@@ -120,10 +121,11 @@ class Store:
         return (0, self.merges, before + written - self.held())
 
     def lookup(self, k):
+        """Found, count, price and stamp."""
         latest = 0   # date met so far
         for x in self.levels:
             if k in x.points:
                 kind, tally, stamp = x.points[k]
-                return (1, tally, stamp) if kind == PUT and stamp > latest else (0, 0, 0)
+                return (1, *tally, stamp) if kind == PUT and stamp > latest else (0, 0, 0, 0)
             latest = max([latest] + [date for (lo, hi), (date, _) in x.ranges.items() if lo <= k <= hi])
-        return (0, 0, 0)
+        return (0, 0, 0, 0)

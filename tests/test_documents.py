@@ -316,7 +316,7 @@ class Counts(Pages):
 class Readme(unittest.TestCase):
     def test_third_demand_is_the_headers(self):
         """One wording: README says of erasure what the header says."""
-        claim = re.compile(r"once a delete was accepted.*?any other tally")
+        claim = re.compile(r"once a delete was accepted.*?any other count or price")
         header, said = (claim.search(" ".join(page_text(p).split())) for p in (ROOT / "include" / "guontrem.h", README))
         self.assertTrue(header and said, "the sentence on erasure stands in include/guontrem.h and in README.md")
         self.assertEqual(said[0], header[0])
@@ -326,14 +326,17 @@ class Readme(unittest.TestCase):
         text = page_text(README)
         hall = text[text.index("**A worked hall.**"):]
         store = reference.Store(*map(int, re.search(r"`M ([\d ]+)`", hall)[1].split()))
+        put = list(map(int, re.search(r"`P ([\d ]+)`", hall)[1].split()))
         for pallet in range(400):
-            store.call("P", 1 + pallet // 4, 100 + pallet, pallet)
+            call = [1 + pallet // 4, 100 + pallet, pallet, 2 * pallet]
+            store.call("P", *(put if put[:2] == call[:2] else call))
         rows = re.findall(r"^\| `(\w) ([\d ]+)` \| `([\d ]+)` \|", hall, re.M)
         for letter, numbers, printed in rows:
             numbers = list(map(int, numbers.split()))
-            answer = (0, *store.lookup(*numbers)[:2]) if letter == "G" else store.call(letter, *numbers)
+            answer = (0, *store.lookup(*numbers)[:3]) if letter == "G" else store.call(letter, *numbers)
             self.assertEqual(" ".join(map(str, answer)), printed, f"{letter} {numbers}")
         self.assertGreater(len(rows), 5)
+        self.assertIn(" ".join(map(str, put[2:])), [printed[4:] for letter, _, printed in rows if letter == "G"], "the price of the line shown")
         told = " ".join(hall.split())
         for level in (1, 2):
             self.assertIn(f"= {store.capacity(level)}", told)

@@ -1,15 +1,16 @@
-"""Scans of the proved library: against a plain map on small tables, over all dockets, on sound tables of every kind, and on damaged ones."""
+"""Scans of the proved library, the hall's and the grower's: against a plain map on small tables, over all dockets, on sound tables of every kind, and on
+damaged ones."""
 import random
 import unittest
 
 import library
 import reference
 import tables
-from loads import RandomCalls, damage, fresh_store, random_settings, random_tables, reference_of
+from loads import RandomCalls, damage, fresh_store, random_settings, random_tables, reference_of, reprice
 from plain_map import PlainMap
 
 LAST_DOCKET = 65535
-JUNK = (0xdead, 0xbeef, 0xfeed)
+JUNK, COUNT_JUNK = (0xdead, 0xbeef, 0xcafe, 0xfeed), (0xdead, 0xbeef, 0xfeed)
 
 
 def scanned(live, lo, hi, room):
@@ -19,17 +20,24 @@ def scanned(live, lo, hi, room):
     return (0, len(rows), more, inside[room][0] if more else 0), rows + [JUNK] * (room - len(rows))
 
 
+def without_prices(answer):
+    """What the grower's scan gives of the hall's answer."""
+    numbers, rows = answer
+    return numbers, [(docket, count, stamp) for docket, count, _, stamp in rows]
+
+
 def live_dockets(store, dockets):
-    """Each docket that a lookup of the plain steps finds, with its tally and stamp."""
+    """Each docket that a lookup of the plain steps finds, with its count, price and stamp."""
     found = {docket: store.lookup(docket) for docket in dockets}
     return {docket: answer[1:] for docket, answer in found.items() if answer[0]}
 
 
 class Scans(unittest.TestCase):
     def check(self, store, live, lo, hi, room, note):
-        """One scan into rows of junk; it writes no word of the tables."""
-        before = store.words()
-        self.assertEqual(store.scan(lo, hi, [JUNK] * room), scanned(live, lo, hi, room), f"{note}: {lo} to {hi} into {room} rows")
+        """One scan of each kind into rows of junk; they write no word of the tables."""
+        before, expected, note = store.words(), scanned(live, lo, hi, room), f"{note}: {lo} to {hi} into {room} rows"
+        self.assertEqual(store.scan(lo, hi, [JUNK] * room), expected, note)
+        self.assertEqual(store.scan_counts(lo, hi, [COUNT_JUNK] * room), without_prices(expected), note)
         self.assertEqual(store.words(), before, note)
 
     def check_widths(self, store, live, dockets, note):
@@ -55,13 +63,15 @@ class Scans(unittest.TestCase):
     def test_document_01(self):
         """Scan with no rows over a live docket: count 0, more."""
         store = fresh_store(6, 2, 2, 1, 4)
-        for docket, tally in ((5, 50), (6, 60), (7, 70)):
-            store.call("P", 1, docket, tally)
+        for docket, count, price in ((5, 50, 4), (6, 60, 0), (7, 70, 4294967295)):
+            store.call("P", 1, docket, count, price)
         self.assertEqual(store.scan(6, 7, []), ((0, 0, True, 6), []))
         self.assertEqual(store.scan(8, 9, []), ((0, 0, False, 0), []))
-        self.assertEqual(store.scan(5, 6, [JUNK]), ((0, 1, True, 6), [(5, 50, 1)]))
-        self.assertEqual(store.scan(6, 6, [JUNK]), ((0, 1, False, 0), [(6, 60, 1)]))
-        self.assertEqual(store.scan(0, LAST_DOCKET, [JUNK] * 4), ((0, 3, False, 0), [(5, 50, 1), (6, 60, 1), (7, 70, 1), JUNK]))
+        self.assertEqual(store.scan(5, 6, [JUNK]), ((0, 1, True, 6), [(5, 50, 4, 1)]))
+        self.assertEqual(store.scan(6, 6, [JUNK]), ((0, 1, False, 0), [(6, 60, 0, 1)]))
+        self.assertEqual(store.scan(0, LAST_DOCKET, [JUNK] * 4), ((0, 3, False, 0), [(5, 50, 4, 1), (6, 60, 0, 1), (7, 70, 4294967295, 1), JUNK]))
+        self.assertEqual(store.scan_counts(6, 7, []), ((0, 0, True, 6), []))
+        self.assertEqual(store.scan_counts(0, LAST_DOCKET, [COUNT_JUNK] * 4), ((0, 3, False, 0), [(5, 50, 1), (6, 60, 1), (7, 70, 1), COUNT_JUNK]))
 
     def test_every_width(self):
         seed = random.randrange(1 << 32)
@@ -96,16 +106,19 @@ class Scans(unittest.TestCase):
                 self.check(store, live, 0, LAST_DOCKET, room, f"seed {seed}: tables {k}")
                 lo, hi = sorted((rng.randrange(31), rng.choice((rng.randrange(31), LAST_DOCKET))))
                 self.check(store, live, lo, hi, room, f"seed {seed}: tables {k}")
+                other = library.Store(reprice(rng, entries), levels)
+                self.assertEqual(other.scan_counts(lo, hi, [COUNT_JUNK] * room), store.scan_counts(lo, hi, [COUNT_JUNK] * room), f"seed {seed}: tables {k}")
 
     def refused(self, store, lo, hi, number, note):
         """Its number and zeros, and neither a row nor a word is changed."""
         before = store.words()
         self.assertEqual(store.scan(lo, hi, [JUNK] * 3), ((number, 0, False, 0), [JUNK] * 3), note)
+        self.assertEqual(store.scan_counts(lo, hi, [COUNT_JUNK] * 3), ((number, 0, False, 0), [COUNT_JUNK] * 3), note)
         self.assertEqual(store.words(), before, note)
 
     def test_dockets_out_of_range(self):
         store = fresh_store(6, 3, 2, 2, 9)
-        store.call("P", 1, 7, 70)
+        store.call("P", 1, 7, 70, 3)
         for lo, hi in ((1, 0), (LAST_DOCKET, 0), (0, 65536), (65536, 65536), (0, 4294967295), (4294967295, 0)):
             self.refused(store, lo, hi, 4, (lo, hi))
 

@@ -6,53 +6,64 @@ import library
 import tables
 from example import ENTRIES, LEVELS, changed
 from loads import damage, random_tables
-from tables import BASE, DELETE, PUT, RANGE
+from tables import BASE, DELETE, PUT, RANGE, WORDS
 
 JUNK = 4294967295
 RIGHT = (2, 2, 1, 1)
 
-# What is changed, which word of the entry table, to what, and the refusal.
+# What is changed, which slot and which word of it, to what, and the refusal.
 ENTRY_WORDS = [
-    ("as it was", 6, 90, 0),
-    ("another tally", 6, 91, 0),
-    ("slot 0's third word", 2, 1, 3),
-    ("slot 0's fourth word", 3, 1, 3),
-    ("a ring of one point", 8, PUT * BASE + 2, 3),
-    ("a ring of two points", 8, PUT * BASE + 3, 3),
-    ("a ring of the free chain", 24, 5, 3),
-    ("crossed: points lead into another level's", 8, PUT * BASE + 1, 3),
-    ("crossed: points lead into ranges", 8, PUT * BASE + 4, 3),
-    ("crossed: points lead into the free chain", 8, PUT * BASE + 5, 3),
-    ("crossed: the free chain leads into points", 24, 1, 3),
-    ("a lost free slot", 20, 0, 3),
-    ("a lost point", 12, DELETE * BASE, 3),
-    ("the free chain lost", 0, 0, 3),
-    ("first free slot past N", 0, 7, 3),
-    ("first free slot 65,536 above", 0, BASE + 5, 3),
-    ("next slot past N", 20, 7, 3),
-    ("a free slot with a kind", 20, PUT * BASE + 6, 3),
-    ("a free slot with a docket", 21, 1, 3),
-    ("a free slot with a tally", 22, 80, 3),
-    ("a free slot with a stamp", 23, 1, 3),
-    ("a put of two dockets", 5, 9 + BASE * 10, 3),
-    ("a range with hi below lo", 17, 29 + BASE * 20, 3),
-    ("a range of one docket", 17, 20 + BASE * 20, 0),
-    ("a delete with a tally", 14, 1, 3),
-    ("a range delete of date 0", 18, 0, 3),
-    ("a range delete of date 1", 18, 1, 0),
-    ("a date after the range delete's stamp", 18, 4, 3),
-    ("a range delete's stamp before its date", 19, 2, 3),
-    ("a range delete's stamp after its date", 19, 4, 0),
-    ("a point of kind 0", 4, 0, 3),
-    ("a point of kind 3", 4, RANGE * BASE, 3),
-    ("a point of kind 65,535", 4, 65535 * BASE, 3),
-    ("a range of kind 1", 16, PUT * BASE, 3),
-    ("a range of kind 4", 16, 4 * BASE, 3),
-    ("points descend", 13, 9 + BASE * 9, 3),
-    ("two points of one docket", 13, 8 + BASE * 8, 3),
-    ("stamp 0", 7, 0, 3),
-    ("a stamp after the last clock", 7, 5, 3),
-    ("the last clock before a stamp", 1, 3, 3),
+    ("as it was", 1, 2, 90, 0),
+    ("another count", 1, 2, 91, 0),
+    ("another price", 1, 4, 19, 0),
+    ("a put of price 0", 1, 4, 0, 0),
+    ("a put of the highest price", 2, 4, JUNK, 0),
+    ("slot 0's third word", 0, 2, 1, 3),
+    ("slot 0's fourth word", 0, 3, 1, 3),
+    ("slot 0's last word", 0, 4, 1, 3),
+    ("slot 0's last word, its highest bit", 0, 4, 1 << 31, 3),
+    ("a ring of one point", 2, 0, PUT * BASE + 2, 3),
+    ("a ring of two points", 2, 0, PUT * BASE + 3, 3),
+    ("a ring of the free chain", 6, 0, 5, 3),
+    ("crossed: points lead into another level's", 2, 0, PUT * BASE + 1, 3),
+    ("crossed: points lead into ranges", 2, 0, PUT * BASE + 4, 3),
+    ("crossed: points lead into the free chain", 2, 0, PUT * BASE + 5, 3),
+    ("crossed: the free chain leads into points", 6, 0, 1, 3),
+    ("a lost free slot", 5, 0, 0, 3),
+    ("a lost point", 3, 0, DELETE * BASE, 3),
+    ("the free chain lost", 0, 0, 0, 3),
+    ("first free slot past N", 0, 0, 7, 3),
+    ("first free slot 65,536 above", 0, 0, BASE + 5, 3),
+    ("next slot past N", 5, 0, 7, 3),
+    ("a free slot with a kind", 5, 0, PUT * BASE + 6, 3),
+    ("a free slot with a docket", 5, 1, 1, 3),
+    ("a free slot with a count", 5, 2, 80, 3),
+    ("a free slot with a stamp", 5, 3, 1, 3),
+    ("a free slot with a price", 5, 4, 16, 3),
+    ("the last free slot with a price", 6, 4, JUNK, 3),
+    ("a put of two dockets", 1, 1, 9 + BASE * 10, 3),
+    ("a range with hi below lo", 4, 1, 29 + BASE * 20, 3),
+    ("a range of one docket", 4, 1, 20 + BASE * 20, 0),
+    ("a delete with a count", 3, 2, 1, 3),
+    ("a delete with a price", 3, 4, 1, 3),
+    ("a delete with the highest price", 3, 4, JUNK, 3),
+    ("a range delete with a price", 4, 4, 1, 3),
+    ("a range delete with its stamp as a price", 4, 4, 3, 3),
+    ("a range delete of date 0", 4, 2, 0, 3),
+    ("a range delete of date 1", 4, 2, 1, 0),
+    ("a date after the range delete's stamp", 4, 2, 4, 3),
+    ("a range delete's stamp before its date", 4, 3, 2, 3),
+    ("a range delete's stamp after its date", 4, 3, 4, 0),
+    ("a point of kind 0", 1, 0, 0, 3),
+    ("a point of kind 3", 1, 0, RANGE * BASE, 3),
+    ("a point of kind 65,535", 1, 0, 65535 * BASE, 3),
+    ("a range of kind 1", 4, 0, PUT * BASE, 3),
+    ("a range of kind 4", 4, 0, 4 * BASE, 3),
+    ("points descend", 3, 1, 9 + BASE * 9, 3),
+    ("two points of one docket", 3, 1, 8 + BASE * 8, 3),
+    ("stamp 0", 1, 3, 0, 3),
+    ("a stamp after the last clock", 1, 3, 5, 3),
+    ("the last clock before a stamp", 0, 1, 3, 3),
 ]
 
 LEVEL_WORDS = [
@@ -92,9 +103,10 @@ LEVEL_WORDS = [
 
 class Check(unittest.TestCase):
     def test_entry_words(self):
-        for name, at, word, number in ENTRY_WORDS:
+        for name, slot, at, word, number in ENTRY_WORDS:
             with self.subTest(name):
-                self.assertEqual(library.check(changed(ENTRIES, at, word), LEVELS), number)
+                entries = changed(ENTRIES, WORDS * slot + at, word)
+                self.assertEqual((tables.refusal(entries, LEVELS), library.check(entries, LEVELS)), (number, number))
 
     def test_level_words(self):
         for name, at, word, number in LEVEL_WORDS:
@@ -109,21 +121,36 @@ class Check(unittest.TestCase):
             self.assertEqual(library.check(ENTRIES, deletes), 3)
 
     def test_short_tables(self):
-        for words in (0, 1, 3, 4, 7, 27):
+        for words in (0, 1, 4, 5, 8, 9, 28, 34):
             self.assertEqual(library.check(ENTRIES[:words], LEVELS), 1)
             self.assertEqual(library.check(ENTRIES[:words], LEVELS[:3]), 1)
-        self.assertEqual(library.check(ENTRIES[:8], LEVELS), 3)
+        self.assertEqual(library.check(ENTRIES[:10], LEVELS), 3)
         for words in (0, 1, 3, 4, 7, 8, 19):
             self.assertEqual(library.check(ENTRIES, LEVELS[:words]), 2)
 
     def test_the_largest(self):
         for slots, number in ((65535, 0), (65536, 1)):
-            answer, entries, levels = library.make([JUNK] * 4 * (slots + 1), [JUNK] * 16, *RIGHT)
+            answer, entries, levels = library.make([JUNK] * WORDS * (slots + 1), [JUNK] * 16, *RIGHT)
             self.assertEqual(answer, number)
             self.assertEqual(library.check(entries, levels), number)
-        whole = tables.made([0] * 4 * BASE, [0] * 16, *RIGHT)[1]
-        self.assertEqual(library.check(changed(whole, 4 * BASE - 1, 1), levels=[*RIGHT] + [0] * 12), 3)
-        self.assertEqual(library.check(changed(whole, 4 * BASE - 4, 1), levels=[*RIGHT] + [0] * 12), 3)
+        whole = tables.made([0] * WORDS * BASE, [0] * 16, *RIGHT)[1]
+        for back in range(1, WORDS + 1):
+            self.assertEqual(library.check(changed(whole, WORDS * BASE - back, 1), levels=[*RIGHT] + [0] * 12), 3)
+
+
+class Prices(unittest.TestCase):
+    def test_only_a_put_has_a_price(self):
+        """In tables of every kind: any price in a put is sound, and none in slot 0, a free slot or a delete."""
+        seed = random.randrange(1 << 32)
+        rng, met = random.Random(seed), {}
+        for _ in range(300):
+            entries, levels = random_tables(rng)
+            for at in range(0, len(entries), WORDS):
+                put = at > 0 and entries[at] // BASE == PUT
+                met[put] = met.get(put, 0) + 1
+                for price in (1, JUNK, 1 << rng.randrange(32)):
+                    self.assertEqual(library.check(changed(entries, at + 4, price), levels), 0 if put else 3, f"seed {seed}: {entries} {levels}, slot {at // WORDS}")
+        self.assertEqual(set(met), {False, True}, f"seed {seed}: an outcome was not met")
 
 
 class Random(unittest.TestCase):

@@ -1,5 +1,5 @@
 //! The archive's functions, as `include/guontrem.h` declares them.
-use crate::Row;
+use crate::{CountRow, Row};
 
 extern "C" {
     pub fn guontrem_make(
@@ -20,7 +20,8 @@ extern "C" {
         level_words: usize,
         clock: u32,
         docket: u32,
-        tally: u32,
+        count: u32,
+        price: u32,
     ) -> u64;
     pub fn guontrem_delete(
         entries: *mut u32,
@@ -69,6 +70,14 @@ extern "C" {
         levels: *const u32,
         level_words: usize,
         docket: u32,
+        price: *mut u32,
+    ) -> u64;
+    pub fn guontrem_lookup_count(
+        entries: *const u32,
+        entry_words: usize,
+        levels: *const u32,
+        level_words: usize,
+        docket: u32,
     ) -> u64;
     pub fn guontrem_scan(
         entries: *const u32,
@@ -78,6 +87,16 @@ extern "C" {
         lo: u32,
         hi: u32,
         rows: *mut Row,
+        row_count: usize,
+    ) -> u64;
+    pub fn guontrem_scan_counts(
+        entries: *const u32,
+        entry_words: usize,
+        levels: *const u32,
+        level_words: usize,
+        lo: u32,
+        hi: u32,
+        rows: *mut CountRow,
         row_count: usize,
     ) -> u64;
 }

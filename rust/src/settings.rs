@@ -6,9 +6,12 @@ pub const MAX_SLOTS: usize = 65535;
 /// The last docket; the first is 0.
 pub const MAX_DOCKET: u32 = 65535;
 
+/// The words of a slot.
+pub(crate) const SLOT_WORDS: usize = 5;
+
 /// The words of the entry table for so many slots.
 pub const fn entry_words(slots: usize) -> usize {
-    4 * (slots + 1)
+    SLOT_WORDS * (slots + 1)
 }
 
 /// The words of the level table for the deepest level.

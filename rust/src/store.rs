@@ -1,7 +1,7 @@
 //! Two tables lent for reading and writing.
 use crate::answers;
 use crate::ffi;
-use crate::{check, Found, Passed, Refusal, Row, Scanned, Settings, View};
+use crate::{check, Found, Grower, Passed, Refusal, Row, Scanned, Settings, Tally, View};
 
 /// Two lent tables that hold a store.
 ///
@@ -12,7 +12,7 @@ use crate::{check, Found, Passed, Refusal, Row, Scanned, Settings, View};
 ///
 /// Erasure, in a store that [`make`](Store::make) made and only these calls changed: once a delete was accepted and has left the buffer
 /// (in its own call or a later one), and a call at least the term after it was accepted, both tables are word for word what they would
-/// be had an earlier put that the delete covers carried any other tally.
+/// be had an earlier put that the delete covers carried any other count or price.
 #[derive(Debug)]
 pub struct Store<'a> {
     entries: &'a mut [u32],
@@ -29,7 +29,7 @@ impl<'a> Store<'a> {
     /// use guontrem::{Refusal, Settings, Store};
     ///
     /// let settings = Settings { deepest: 7, ratio: 2, buffer: 1, term: 1 };
-    /// assert_eq!(Store::make(&mut [0; 8], &mut [0; 16], settings).unwrap_err(), Refusal::Settings);
+    /// assert_eq!(Store::make(&mut [0; 10], &mut [0; 16], settings).unwrap_err(), Refusal::Settings);
     /// ```
     pub fn make(entries: &'a mut [u32], levels: &'a mut [u32], settings: Settings) -> Result<Self, Refusal> {
         let Settings { deepest, ratio, buffer, term } = settings;
@@ -45,14 +45,14 @@ impl<'a> Store<'a> {
     /// Refusals: those of [`check`].
     ///
     /// ```
-    /// use guontrem::{entry_words, level_words, Settings, Store};
+    /// use guontrem::{entry_words, level_words, Settings, Store, Tally};
     ///
     /// let mut entries = [0; entry_words(6)];
     /// let mut levels = [0; level_words(2)];
     /// let settings = Settings { deepest: 2, ratio: 2, buffer: 2, term: 9 };
-    /// Store::make(&mut entries, &mut levels, settings)?.put(1, 7, 70)?;
+    /// Store::make(&mut entries, &mut levels, settings)?.put(1, 7, Tally { count: 70, price: 3 })?;
     /// let store = Store::open(&mut entries, &mut levels)?;
-    /// assert_eq!(store.lookup(7)?.unwrap().tally, 70);
+    /// assert_eq!(store.lookup(7)?.unwrap().tally.price, 3);
     /// # Ok::<(), guontrem::Refusal>(())
     /// ```
     pub fn open(entries: &'a mut [u32], levels: &'a mut [u32]) -> Result<Self, Refusal> {
@@ -60,13 +60,13 @@ impl<'a> Store<'a> {
         Ok(Store { entries, levels })
     }
 
-    /// Puts a docket's tally, in place of the one it had.
+    /// Puts a docket's count and price, in place of those it had.
     ///
     /// Refusals, in this order: those of [`check`], [`Docket`](Refusal::Docket), [`Clock`](Refusal::Clock), [`Full`](Refusal::Full).
-    pub fn put(&mut self, clock: u32, docket: u32, tally: u32) -> Result<Passed, Refusal> {
+    pub fn put(&mut self, clock: u32, docket: u32, tally: Tally) -> Result<Passed, Refusal> {
         let (e, ne, l, nl) = self.lend();
         // SAFETY: as `lend` says.
-        answers::passed(unsafe { ffi::guontrem_put(e, ne, l, nl, clock, docket, tally) })
+        answers::passed(unsafe { ffi::guontrem_put(e, ne, l, nl, clock, docket, tally.count, tally.price) })
     }
 
     /// Deletes a docket, live or not; never refused for lack of a slot.
@@ -93,16 +93,16 @@ impl<'a> Store<'a> {
     /// Refusals, in this order: those of [`check`], [`Docket`](Refusal::Docket), [`Clock`](Refusal::Clock), [`Date`](Refusal::Date).
     ///
     /// ```
-    /// use guontrem::{entry_words, level_words, Settings, Store, MAX_DOCKET};
+    /// use guontrem::{entry_words, level_words, Settings, Store, Tally, MAX_DOCKET};
     ///
     /// let mut entries = [0; entry_words(6)];
     /// let mut levels = [0; level_words(2)];
     /// let mut store = Store::make(&mut entries, &mut levels, Settings { deepest: 2, ratio: 2, buffer: 2, term: 9 })?;
-    /// store.put(1, 7, 70)?;
-    /// store.put(2, 8, 80)?;
+    /// store.put(1, 7, Tally { count: 70, price: 3 })?;
+    /// store.put(2, 8, Tally { count: 80, price: 4 })?;
     /// store.delete_range_dated(5, 0, MAX_DOCKET, 1)?;
     /// assert_eq!(store.lookup(7)?, None);
-    /// assert_eq!(store.lookup(8)?.unwrap().tally, 80);
+    /// assert_eq!(store.lookup(8)?.unwrap().tally, Tally { count: 80, price: 4 });
     /// # Ok::<(), guontrem::Refusal>(())
     /// ```
     pub fn delete_range_dated(&mut self, clock: u32, lo: u32, hi: u32, date: u32) -> Result<Passed, Refusal> {
@@ -158,6 +158,11 @@ impl<'a> Store<'a> {
     /// The store for reading alone, until it is written again.
     pub fn view(&self) -> View<'_> {
         View::of_sound(self.entries, self.levels)
+    }
+
+    /// What a grower may read of the store, until it is written again: counts and stamps, no price.
+    pub fn grower(&self) -> Grower<'_> {
+        self.view().grower()
     }
 
     /// Both tables as the archive takes them: valid for reads and writes of their lengths, and apart from each other.

@@ -1,19 +1,20 @@
 //! Tables lent for reading alone: what a view says of them, and the live dockets one by one.
-use guontrem::{check, entry_words, level_words, Live, Refusal, Row, Settings, Store, View, MAX_DOCKET};
+use guontrem::{check, entry_words, level_words, Live, Refusal, Row, Settings, Store, Tally, View, MAX_DOCKET};
 
 const SETTINGS: Settings = Settings { deepest: 3, ratio: 4, buffer: 8, term: 1000 };
 const SLOTS: usize = 400;
 /// How many rows the iterator fetches at a time; its documentation says so.
 const BLOCK: usize = 64;
 
-/// The tables of a store with so many live dockets: 7, 10, 13, …, each with ten times its number as its tally.
+/// The tables of a store with so many live dockets: 7, 10, 13, …, each with its number as its price and ten times that as its
+/// count.
 fn tables_with(live: usize) -> (Vec<u32>, Vec<u32>) {
     let (mut entries, mut levels) = (vec![0; entry_words(SLOTS)], vec![0; level_words(3)]);
     let mut store = Store::make(&mut entries, &mut levels, SETTINGS).unwrap();
     // Every other docket first, so that they do not come in their order.
     let order = (0..live).step_by(2).chain((1..live).step_by(2));
     for (clock, docket) in (1..).zip(order.map(docket_at)) {
-        store.put(clock, docket, 10 * docket).unwrap();
+        store.put(clock, docket, Tally { count: 10 * docket, price: docket }).unwrap();
     }
     (entries, levels)
 }
@@ -35,7 +36,7 @@ fn what_a_view_says() -> Result<(), Refusal> {
     let (mut entries, mut levels) = (vec![0; entry_words(6)], vec![0; level_words(3)]);
     let mut store = Store::make(&mut entries, &mut levels, SETTINGS)?;
     assert_eq!((store.view().clock(), store.view().slots(), store.view().settings()), (0, 6, SETTINGS));
-    store.put(5, 7, 70)?;
+    store.put(5, 7, Tally { count: 70, price: 3 })?;
     assert_eq!(store.view().clock(), 5);
     assert_eq!(store.tick(4), Err(Refusal::Clock));
     assert_eq!(store.view().clock(), 5);
@@ -44,7 +45,7 @@ fn what_a_view_says() -> Result<(), Refusal> {
     let before = (entries.clone(), levels.clone());
     let view = View::open(&entries, &levels)?;
     assert_eq!(view.check(), Ok(()));
-    assert_eq!(view.lookup(7)?.map(|found| (found.tally, found.stamp)), Some((70, 5)));
+    assert_eq!(view.lookup(7)?.map(|found| (found.tally, found.stamp)), Some((Tally { count: 70, price: 3 }, 5)));
     assert_eq!(view.lookup(8)?, None);
     assert_eq!(view.lookup(MAX_DOCKET + 1), Err(Refusal::Docket));
     assert_eq!((entries, levels), before);
@@ -56,12 +57,13 @@ fn what_a_view_says() -> Result<(), Refusal> {
 fn tables_that_hold_no_store() {
     let (entries, levels) = tables_with(9);
     assert!(View::open(&entries, &levels).is_ok());
-    for (words, rows) in [(0, 20), (1, 20), (7, 20), (1604, 0), (1604, 3), (1604, 19), (1600, 20)] {
+    for (words, rows) in [(0, 20), (1, 20), (8, 20), (2005, 0), (2005, 3), (2005, 19), (2004, 20), (2000, 20)] {
         let (cut, rows) = (&entries[..words], &levels[..rows]);
         assert_eq!(View::open(cut, rows).err(), check(cut, rows).err());
         assert!(View::open(cut, rows).is_err());
     }
-    for at in [0, 2, 3, 4, 5, 7] {
+    // Slot 0's words but the clock, and the first slot's link, dockets and stamp.
+    for at in [0, 2, 3, 4, 5, 6, 8] {
         let mut damaged = entries.clone();
         damaged[at] ^= 0x8000_0000;
         assert_eq!(View::open(&damaged, &levels).unwrap_err(), Refusal::Unsound);
@@ -73,8 +75,8 @@ fn live_dockets_are_those_of_one_scan() -> Result<(), Refusal> {
     for count in [0, 1, 2, BLOCK - 1, BLOCK, BLOCK + 1, 2 * BLOCK, 2 * BLOCK + 1, 300] {
         let (entries, levels) = tables_with(count);
         let view = View::open(&entries, &levels)?;
-        let put = (0..count).map(|i| (docket_at(i), 10 * docket_at(i)));
-        assert!(by_one_scan(view, 0, MAX_DOCKET).iter().map(|row| (row.docket, row.tally)).eq(put));
+        let put = (0..count).map(|i| (docket_at(i), 10 * docket_at(i), docket_at(i)));
+        assert!(by_one_scan(view, 0, MAX_DOCKET).iter().map(|row| (row.docket, row.count, row.price)).eq(put));
         let end = docket_at(count.max(1));
         for (lo, hi) in [(0, MAX_DOCKET), (7, 7), (8, 9), (8, end), (0, end - 3), (end - 3, MAX_DOCKET), (end, end)] {
             assert_eq!(view.live(lo, hi)?.collect::<Vec<_>>(), by_one_scan(view, lo, hi), "{count} live, {lo} to {hi}");

@@ -17,8 +17,8 @@ enum {
     WRITES = READS | TIMED
 };
 static const int can_meet[KINDS] = {
-    [MAKE] = LENGTHS | 1 << GUONTREM_SETTINGS, [CHECK] = CHECKED, [LOOKUP] = READS, [SCAN] = READS, [PUT] = WRITES | 1 << GUONTREM_FULL,
-    [DELETE] = WRITES, [DELETE_RANGE] = WRITES, [DELETE_RANGE_DATED] = WRITES | 1 << GUONTREM_DATE, [FLUSH] = TIMED, [TICK] = TIMED,
+    [MAKE] = LENGTHS | 1 << GUONTREM_SETTINGS, [CHECK] = CHECKED, [LOOKUP] = READS, [LOOKUP_COUNT] = READS, [SCAN] = READS, [SCAN_COUNTS] = READS,
+    [PUT] = WRITES | 1 << GUONTREM_FULL, [DELETE] = WRITES, [DELETE_RANGE] = WRITES, [DELETE_RANGE_DATED] = WRITES | 1 << GUONTREM_DATE, [FLUSH] = TIMED, [TICK] = TIMED,
 };
 
 void require(bool holds, const char *what) {
@@ -33,9 +33,10 @@ void count_call(const struct call *c, struct answer a) {
     require(a.refusal < REFUSALS, "a refusal above 10");
     counts.refusals[kind][a.refusal]++;
     if (a.refusal != 0) return;
-    counts.found += kind == LOOKUP && a.parts[0] == 1;
-    counts.absent += kind == LOOKUP && a.parts[0] == 0;
-    counts.more += kind == SCAN && a.parts[1] == 1;
+    counts.found += is_lookup(kind) && a.parts[0] == 1;
+    counts.absent += is_lookup(kind) && a.parts[0] == 0;
+    counts.priced += kind == LOOKUP && a.parts[3] != 0;
+    counts.more += is_scan(kind) && a.parts[1] == 1;
     counts.dated_now += kind == DELETE_RANGE_DATED && c->date == c->clock;
     counts.dated_before += kind == DELETE_RANGE_DATED && c->date < c->clock;
     if (PUT <= kind) counts.merges += a.parts[0], counts.purged += a.parts[1];
@@ -74,6 +75,7 @@ void report_counts(void) {
     tell("records purged", counts.purged);
     tell("lookups that found", counts.found);
     tell("lookups that did not", counts.absent);
+    tell("lookups that found a price", counts.priced);
     tell("scans that said more", counts.more);
     tell("range deletes with the clock as their date", counts.dated_now);
     tell("range deletes with an earlier date", counts.dated_before);

@@ -7,7 +7,7 @@
 /* What was met so far. */
 struct counts {
     uint64_t calls, refusals[KINDS][GUONTREM_DATE + 1];
-    uint64_t merges, purged, found, absent, more;
+    uint64_t merges, purged, found, absent, priced, more;
     /* Accepted range deletes by their date: the clock, and earlier ones. */
     uint64_t dated_now, dated_before;
     /* Scans by their rows: none, one, as many as live dockets, fewer, more. */

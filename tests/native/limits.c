@@ -45,8 +45,8 @@ static void check_dockets(void) {
     uint32_t entries[GUONTREM_ENTRY_WORDS(6)], levels[GUONTREM_LEVEL_WORDS(3)];
     size_t ne = GUONTREM_ENTRY_WORDS(6), nl = GUONTREM_LEVEL_WORDS(3);
     require(guontrem_make(entries, ne, levels, nl, 3, 4, 8, 1000) == GUONTREM_ACCEPTED, "a making");
-    require(guontrem_timed_refusal(guontrem_put(entries, ne, levels, nl, 1, GUONTREM_MAX_DOCKET, 1)) == GUONTREM_ACCEPTED, "the last docket");
-    require(guontrem_timed_refusal(guontrem_put(entries, ne, levels, nl, 1, GUONTREM_MAX_DOCKET + 1, 1)) == GUONTREM_DOCKET, "a docket past the last");
+    require(guontrem_timed_refusal(guontrem_put(entries, ne, levels, nl, 1, GUONTREM_MAX_DOCKET, 1, 1)) == GUONTREM_ACCEPTED, "the last docket");
+    require(guontrem_timed_refusal(guontrem_put(entries, ne, levels, nl, 1, GUONTREM_MAX_DOCKET + 1, 1, 1)) == GUONTREM_DOCKET, "a docket past the last");
 }
 
 static void check_dates(void) {

@@ -8,11 +8,12 @@
 enum { ODD_SHARE = 20, MAKE_SHARE = 200, MOST_DOCKETS = GUONTREM_MAX_DOCKET + 1 };
 
 /* Every kind but make, which empties the store and is drawn apart. */
-static const enum kind every[] = {PUT, PUT, PUT, PUT, PUT, DELETE, DELETE, DELETE_RANGE, DELETE_RANGE_DATED, FLUSH, TICK, TICK, LOOKUP, LOOKUP, SCAN, CHECK};
-static const enum kind filling[] = {PUT, PUT, PUT, PUT, PUT, PUT, PUT, PUT, LOOKUP, SCAN, DELETE, TICK};
-static const enum kind deleting[] = {PUT, PUT, PUT, DELETE, DELETE, DELETE, LOOKUP, SCAN, TICK, FLUSH};
-static const enum kind ranging[] = {PUT, PUT, PUT, PUT, DELETE_RANGE, DELETE_RANGE_DATED, LOOKUP, SCAN, TICK};
-static const enum kind dating[] = {PUT, PUT, PUT, PUT, DELETE_RANGE_DATED, DELETE_RANGE_DATED, DELETE_RANGE_DATED, DELETE, LOOKUP, SCAN, TICK, FLUSH};
+static const enum kind every[] = {PUT, PUT, PUT, PUT, PUT, DELETE, DELETE, DELETE_RANGE, DELETE_RANGE_DATED, FLUSH, TICK, TICK, LOOKUP, LOOKUP_COUNT, SCAN, SCAN_COUNTS,
+                                  CHECK};
+static const enum kind filling[] = {PUT, PUT, PUT, PUT, PUT, PUT, PUT, PUT, LOOKUP, SCAN, SCAN_COUNTS, DELETE, TICK};
+static const enum kind deleting[] = {PUT, PUT, PUT, DELETE, DELETE, DELETE, LOOKUP, LOOKUP_COUNT, SCAN, TICK, FLUSH};
+static const enum kind ranging[] = {PUT, PUT, PUT, PUT, DELETE_RANGE, DELETE_RANGE_DATED, LOOKUP, SCAN, SCAN_COUNTS, TICK};
+static const enum kind dating[] = {PUT, PUT, PUT, PUT, DELETE_RANGE_DATED, DELETE_RANGE_DATED, DELETE_RANGE_DATED, DELETE, LOOKUP, LOOKUP_COUNT, SCAN, TICK, FLUSH};
 
 #define MIX(kinds) {kinds, sizeof(kinds) / sizeof *(kinds)}
 static const struct {
@@ -100,16 +101,21 @@ static void make_odd(struct call *c) {
     else c->lo = c->hi + 1;
 }
 
+/* A count or a price: any, now and then an end. */
+static uint32_t draw_number(void) {
+    static const uint32_t ends[] = {0, 1, 9, UINT32_MAX};
+    return one_in(4) ? RANDOM_OF(ends) : random_word();
+}
+
 struct call random_call(struct load *load, const struct store *s) {
-    static const uint32_t tallies[] = {0, 1, 9, UINT32_MAX};
     load->clock = at_most(UINT32_MAX, (uint64_t)load->clock + RANDOM_OF(load->steps));
     struct call c = {.kind = one_in(MAKE_SHARE) ? MAKE : load->mix[random_below(load->mix_size)], .clock = load->clock, .settings = load->settings};
     draw_span(load, &c);
     c.date = draw_date(load);
-    c.tally = one_in(4) ? RANDOM_OF(tallies) : random_word();
+    c.count = draw_number(), c.price = draw_number();
     if (c.kind == MAKE && one_in(2)) c.settings = random_settings();
     if (one_in(ODD_SHARE)) make_odd(&c);
-    if (c.kind == SCAN && one_in(3)) c.lo = 0, c.hi = GUONTREM_MAX_DOCKET;
-    if (c.kind == SCAN) c.row_count = draw_rows(live_dockets(s, c.lo, c.hi));
+    if (is_scan(c.kind) && one_in(3)) c.lo = 0, c.hi = GUONTREM_MAX_DOCKET;
+    if (is_scan(c.kind)) c.row_count = draw_rows(live_dockets(s, c.lo, c.hi));
     return c;
 }

@@ -4,6 +4,7 @@
 #include "loads.h"
 #include "native_check.h"
 #include "pairs.h"
+#include "prices.h"
 #include "random.h"
 #include "tables.h"
 #include "twins.h"
@@ -124,11 +125,12 @@ int main(int count, char **words) {
     check_limits();
     check_wrappers();
     seed_random(seed);
-    run_part(run_fresh, calls * 50 / 100, 300);
+    run_part(run_fresh, calls * 45 / 100, 300);
     run_part(run_sound, calls * 15 / 100, 10);
     run_part(run_damaged, calls * 25 / 100, 10);
     run_large(1 + calls / 10000);
     run_twins(calls * 10 / 100);
+    run_price_twins(calls * 5 / 100);
     report_counts();
     return 0;
 }

@@ -44,13 +44,18 @@ bool same_words(const struct store *a, const struct store *b) {
 
 bool guards_hold(const struct store *s) { return table_guarded(s->entries, s->entry_words) && table_guarded(s->levels, s->level_words); }
 
-uint32_t slot_count(const struct store *s) { return (uint32_t)(s->entry_words / 4 - 1); }
+uint32_t slot_count(const struct store *s) { return (uint32_t)(s->entry_words / GUONTREM_SLOT_WORDS - 1); }
+
+uint32_t *slot_row(const struct store *s, uint32_t slot) { return s->entries + (size_t)GUONTREM_SLOT_WORDS * slot; }
 
 uint32_t *level_row(const struct store *s, uint32_t level) { return s->levels + 4 * (level + 1); }
 
-static bool same_chain(const uint32_t *a, uint32_t x, const uint32_t *b, uint32_t y) {
-    for (; x != 0 && y != 0; x = a[4 * x] & 65535, y = b[4 * y] & 65535)
-        if (a[4 * x] >> 16 != b[4 * y] >> 16 || memcmp(a + 4 * x + 1, b + 4 * y + 1, 3 * sizeof *a) != 0) return false;
+static bool same_chain(const struct store *a, uint32_t x, const struct store *b, uint32_t y) {
+    while (x != 0 && y != 0) {
+        const uint32_t *r = slot_row(a, x), *q = slot_row(b, y);
+        if (r[0] >> 16 != q[0] >> 16 || memcmp(r + 1, q + 1, (GUONTREM_SLOT_WORDS - 1) * sizeof *r) != 0) return false;
+        x = r[0] & 65535, y = q[0] & 65535;
+    }
     return x == y;
 }
 
@@ -61,19 +66,19 @@ const char *difference(const struct store *a, const struct store *b) {
         const uint32_t *x = level_row(a, i), *y = level_row(b, i);
         if (x[2] != y[2]) return "number of records";
         if (x[3] != y[3]) return "owed";
-        if (!same_chain(a->entries, x[0], b->entries, y[0])) return "points";
-        if (!same_chain(a->entries, x[1], b->entries, y[1])) return "ranges";
+        if (!same_chain(a, x[0], b, y[0])) return "points";
+        if (!same_chain(a, x[1], b, y[1])) return "ranges";
     }
     return NULL;
 }
 
-static void print_table(const char *name, const uint32_t *table, size_t words) {
+static void print_table(const char *name, const uint32_t *table, size_t words, size_t in_a_row) {
     printf("  %s, %zu words:", name, words);
-    for (size_t i = 0; i < words && i < MOST_PRINTED; i++) printf("%s%u", i % 4 == 0 ? "  " : " ", table[i]);
+    for (size_t i = 0; i < words && i < MOST_PRINTED; i++) printf("%s%u", i % in_a_row == 0 ? "  " : " ", table[i]);
     printf("%s\n", MOST_PRINTED < words ? " ..." : "");
 }
 
 void print_store(const struct store *s) {
-    print_table("entries", s->entries, s->entry_words);
-    print_table("levels", s->levels, s->level_words);
+    print_table("entries", s->entries, s->entry_words, GUONTREM_SLOT_WORDS);
+    print_table("levels", s->levels, s->level_words, 4);
 }

@@ -20,6 +20,8 @@ bool same_words(const struct store *a, const struct store *b);
 bool guards_hold(const struct store *s);
 
 uint32_t slot_count(const struct store *s);
+/* Link, dockets, count or date, stamp and price of a slot. */
+uint32_t *slot_row(const struct store *s, uint32_t slot);
 /* The first point, first range, number of records and owed of a level. */
 uint32_t *level_row(const struct store *s, uint32_t level);
 /* What two sound stores differ in, read along their chains and whatever slots they use; none where they are alike. */

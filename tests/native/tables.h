@@ -6,7 +6,7 @@
 /* Fills tables of allowed lengths so that they are sound, mostly as no list of calls leaves them. */
 void lay_sound(struct store *s);
 /* How tables are damaged; the last three by their lengths. */
-enum damage { ONE_WORD, TWO_WORDS, LINKS, RING, DATE, RANDOM_WORDS, EMPTY_TABLE, ONE_WORD_TABLE, OTHER_LENGTH, DAMAGES };
+enum damage { ONE_WORD, TWO_WORDS, LINKS, RING, DATE, PRICE, RANDOM_WORDS, EMPTY_TABLE, ONE_WORD_TABLE, OTHER_LENGTH, DAMAGES };
 extern const char *const damage_names[DAMAGES];
 
 /* Changes words of sound tables in one of these ways. */

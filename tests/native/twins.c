@@ -1,4 +1,5 @@
-/* Demand 3 on the archive: lists alike in all but one put's tally leave the same words once it is erased, and in no four bytes of them that tally. */
+/* Demand 3 on the archive: lists alike in all but one put's tally, its count, its price or both, leave the same words once it is erased, and in no
+   four bytes of them that count or that price. */
 #define _GNU_SOURCE
 #include "twins.h"
 
@@ -11,7 +12,7 @@
 #include <stdio.h>
 #include <string.h>
 
-/* Set in the chosen put's tally alone: other tallies have none of these bits, and the last byte of any docket, slot, clock or term has not. */
+/* Set in the chosen put's count and price alone: other tallies have none of these bits, and the last byte of any docket, slot, clock or term has not. */
 static const uint32_t marked_bits = 0x80808080, last_marked_docket = 0x7fff;
 
 /* The earliest accepted clock of a delete over the put that waits in the buffer, and of one that has left it; 0 for none. */
@@ -19,22 +20,29 @@ struct fate {
     uint32_t waiting, gone;
 };
 
+struct tally {
+    uint32_t count, price;
+};
+
 struct twins {
     struct store one, two;
     struct pair steps;
-    uint32_t docket, clock, tallies[2], term;
+    uint32_t docket, clock, term;
+    struct tally tallies[2];
     /* Of all deletes, and of those without an earlier date. */
     struct fate deletes, undated;
     bool erased, dated, differed, seen;
 };
 
 static struct {
-    uint64_t lists, differed, erased, both, dated, seen;
+    uint64_t lists, differed, erased, both, dated, seen, prices;
 } met;
 
-static bool table_holds(const uint32_t *table, size_t words, uint32_t tally) { return memmem(table, words * sizeof *table, &tally, sizeof tally) != NULL; }
+static bool table_holds(const uint32_t *table, size_t words, uint32_t word) { return memmem(table, words * sizeof *table, &word, sizeof word) != NULL; }
 
-static bool holds_bytes(const struct store *s, uint32_t tally) { return table_holds(s->entries, s->entry_words, tally) || table_holds(s->levels, s->level_words, tally); }
+static bool holds_bytes(const struct store *s, uint32_t word) { return table_holds(s->entries, s->entry_words, word) || table_holds(s->levels, s->level_words, word); }
+
+static bool holds_tally(const struct store *s, struct tally tally) { return holds_bytes(s, tally.count) || holds_bytes(s, tally.price); }
 
 static bool is_range(const struct call *c) { return c->kind == DELETE_RANGE || c->kind == DELETE_RANGE_DATED; }
 
@@ -49,12 +57,16 @@ static bool covers(const struct call *c, uint32_t docket, uint32_t clock) {
 
 /* "If no slot is free and the entry would free none in the buffer". */
 static bool is_crowded(const struct store *s, const struct call *c) {
-    const uint32_t *e = s->entries, *buffer = level_row(s, 0);
-    if (e[0] != 0) return false;
-    for (uint32_t at = buffer[0]; at != 0; at = e[4 * at] & 65535)
-        if (covers(c, e[4 * at + 1] & 65535, e[4 * at + 3])) return false;
-    for (uint32_t at = buffer[1]; is_range(c) && at != 0; at = e[4 * at] & 65535)
-        if (e[4 * at + 1] == (c->lo | c->hi << 16)) return false;
+    const uint32_t *buffer = level_row(s, 0), *row;
+    if (s->entries[0] != 0) return false;
+    for (uint32_t at = buffer[0]; at != 0; at = row[0] & 65535) {
+        row = slot_row(s, at);
+        if (covers(c, row[1] & 65535, row[3])) return false;
+    }
+    for (uint32_t at = buffer[1]; is_range(c) && at != 0; at = row[0] & 65535) {
+        row = slot_row(s, at);
+        if (row[1] == (c->lo | c->hi << 16)) return false;
+    }
     return true;
 }
 
@@ -85,7 +97,7 @@ static void follow(struct twins *t, const struct call *c, uint32_t refusal, bool
 static struct answer call_all(struct twins *t, const struct call *c, const struct call *other) {
     copy_words(&t->steps.before, &t->one);
     uint64_t expected = native_call(&t->steps.native, c, NULL), one = proved_call(&t->one, c, NULL), two = proved_call(&t->two, other, NULL);
-    struct answer a = unpack_plainly(c->kind, expected);
+    struct answer a = unpack_plainly(c->kind, expected, 0);
     copy_words(&t->steps.proved, &t->one);
     if (one != two) fail("the twins' answers differ", &t->steps, c);
     if (one != expected) fail("the answers differ", &t->steps, c);
@@ -99,7 +111,7 @@ static void step(struct twins *t, const struct call *c, const struct call *other
     struct answer a = call_all(t, c, other);
     bool merged = (a.refusal == 0 && (c->kind == FLUSH || crowded)) || a.refusal == GUONTREM_FULL;
     if (after && (a.refusal == 0 || a.refusal == GUONTREM_FULL)) follow(t, c, a.refusal, merged);
-    bool same = same_words(&t->one, &t->two), seen = holds_bytes(&t->one, t->tallies[0]) || holds_bytes(&t->two, t->tallies[1]);
+    bool same = same_words(&t->one, &t->two), seen = holds_tally(&t->one, t->tallies[0]) || holds_tally(&t->two, t->tallies[1]);
     t->differed |= !same, t->seen |= seen;
     if (t->erased && !same) fail("words differ though the put was erased", &t->steps, c);
     if (t->erased && seen) fail("the bytes of an erased tally are in the tables", &t->steps, c);
@@ -119,8 +131,25 @@ static struct call twin_call(struct load *load, const struct store *s) {
     struct call c;
     do c = random_call(load, s);
     while (c.kind < PUT || (last_marked_docket < last_docket(&c) && last_docket(&c) <= GUONTREM_MAX_DOCKET));
-    c.tally &= ~marked_bits;
+    c.count &= ~marked_bits, c.price &= ~marked_bits;
     return c;
+}
+
+static uint32_t marked_word(void) { return random_word() | marked_bits; }
+
+static uint32_t other_marked(uint32_t word) {
+    uint32_t other;
+    do other = marked_word();
+    while (other == word);
+    return other;
+}
+
+/* Both marked; another count, another price, or both. */
+static void draw_tallies(struct tally tallies[2]) {
+    uint32_t which = random_below(3);
+    tallies[0] = tallies[1] = (struct tally){marked_word(), marked_word()};
+    if (which != 0) tallies[1].count = other_marked(tallies[0].count);
+    if (which != 1) tallies[1].price = other_marked(tallies[0].price);
 }
 
 static void run_list(uint32_t slots, uint32_t length) {
@@ -129,18 +158,17 @@ static void run_list(uint32_t slots, uint32_t length) {
     struct twins t = {.one = new_store(entry_words, level_words), .two = new_store(entry_words, level_words), .steps = new_pair(entry_words, level_words)};
     struct call make = {.kind = MAKE, .settings = load.settings}, put = {.kind = PUT};
     t.docket = random_below(load.dockets), t.term = load.settings.term;
-    t.tallies[0] = random_word() | marked_bits;
-    do t.tallies[1] = random_word() | marked_bits;
-    while (t.tallies[1] == t.tallies[0]);
+    draw_tallies(t.tallies);
     call_all(&t, &make, &make);
     for (uint32_t i = 0, chosen = random_below(length / 2); i < length; i++) {
         struct call c = twin_call(&load, &t.one), other;
-        if (i == chosen) put.clock = c.clock, put.lo = t.docket, put.tally = t.tallies[0], t.clock = c.clock, c = put;
+        if (i == chosen) put.clock = c.clock, put.lo = t.docket, put.count = t.tallies[0].count, put.price = t.tallies[0].price, t.clock = c.clock, c = put;
         other = c;
-        if (i == chosen) other.tally = t.tallies[1];
+        if (i == chosen) other.count = t.tallies[1].count, other.price = t.tallies[1].price;
         step(&t, &c, &other, chosen < i);
     }
     met.lists++, met.differed += t.differed, met.erased += t.erased, met.both += t.differed && t.erased, met.dated += t.differed && t.dated, met.seen += t.seen && t.erased;
+    met.prices += t.differed && t.erased && t.tallies[0].count == t.tallies[1].count;
     free_store(&t.one);
     free_store(&t.two);
     free_pair(&t.steps);
@@ -157,8 +185,10 @@ void run_twins(uint64_t calls) {
     }
     printf("%12" PRIu64 "  twin lists: in %" PRIu64 " words differed, in %" PRIu64 " the put was erased, in %" PRIu64 " both\n", met.lists, met.differed, met.erased, met.both);
     printf("%12" PRIu64 "  of these erased by deletes with an earlier date\n", met.dated);
+    printf("%12" PRIu64 "  of these with another price alone\n", met.prices);
     printf("%12" PRIu64 "  twin lists whose erased tally had been in the tables\n", met.seen);
     require(met.lists / 10 < met.both, "lists in which words differed and the put was erased");
     require(met.lists / 200 <= met.dated, "lists in which deletes with an earlier date erased the put");
+    require(met.lists / 40 < met.prices, "lists in which words differed by a price alone and the put was erased");
     require(met.both == met.seen, "an erased tally was in the tables exactly where words differed");
 }

@@ -3,7 +3,7 @@
 
 #include <stdint.h>
 
-/* Runs lists of calls twice on the archive, alike in all but one put's tally, until so many calls were made. */
+/* Runs lists of calls twice on the archive, alike in all but one put's count or price, until so many calls were made. */
 void run_twins(uint64_t calls);
 
 #endif

@@ -7,20 +7,24 @@
 #include <stdlib.h>
 #include <string.h>
 
-static struct answer of_timed(struct guontrem_timed_answer a) { return (struct answer){a.refusal, {a.merges, a.purged, 0}}; }
+static struct answer of_timed(struct guontrem_timed_answer a) { return (struct answer){a.refusal, {a.merges, a.purged}}; }
 
-static struct answer of_lookup(struct guontrem_lookup_answer a) { return (struct answer){a.refusal, {(uint32_t)a.found, a.tally, a.stamp}}; }
+static struct answer of_lookup(struct guontrem_lookup_answer a) { return (struct answer){a.refusal, {(uint32_t)a.found, a.count, a.stamp, a.price}}; }
+
+static struct answer of_count(struct guontrem_count_answer a) { return (struct answer){a.refusal, {(uint32_t)a.found, a.count, a.stamp}}; }
 
 static struct answer of_scan(struct guontrem_scan_answer a) { return (struct answer){a.refusal, {a.count, (uint32_t)a.more, a.next}}; }
 
-static struct answer wrapped_call(struct guontrem_store *s, const struct call *c, struct guontrem_row *rows) {
+static struct answer wrapped_call(struct guontrem_store *s, const struct call *c, const struct lent *lent) {
     struct guontrem_settings settings = {c->settings.deepest, c->settings.ratio, c->settings.buffer, c->settings.term};
     switch (c->kind) {
     case MAKE: return (struct answer){guontrem_store_make(s, settings), {0}};
     case CHECK: return (struct answer){guontrem_store_check(s), {0}};
     case LOOKUP: return of_lookup(guontrem_store_lookup(s, c->lo));
-    case SCAN: return of_scan(guontrem_store_scan(s, c->lo, c->hi, rows, c->row_count));
-    case PUT: return of_timed(guontrem_store_put(s, c->clock, c->lo, c->tally));
+    case LOOKUP_COUNT: return of_count(guontrem_store_lookup_count(s, c->lo));
+    case SCAN: return of_scan(guontrem_store_scan(s, c->lo, c->hi, lent->rows, c->row_count));
+    case SCAN_COUNTS: return of_scan(guontrem_store_scan_counts(s, c->lo, c->hi, lent->count_rows, c->row_count));
+    case PUT: return of_timed(guontrem_store_put(s, c->clock, c->lo, c->count, c->price));
     case DELETE: return of_timed(guontrem_store_delete(s, c->clock, c->lo));
     case DELETE_RANGE: return of_timed(guontrem_store_delete_range(s, c->clock, c->lo, c->hi));
     case DELETE_RANGE_DATED: return of_timed(guontrem_store_delete_range_dated(s, c->clock, c->lo, c->hi, c->date));
@@ -55,17 +59,20 @@ static struct store copy_of(const struct store *s) {
 void compare_wrapped(const struct pair *p, const struct call *c) {
     struct store plain = copy_of(&p->before), wrapped = copy_of(&p->before);
     struct guontrem_store lent = {wrapped.entries, wrapped.entry_words, wrapped.levels, wrapped.level_words};
-    struct guontrem_row *plain_rows = junk_rows(c->row_count), *rows = junk_rows(c->row_count);
-    struct answer expected = unpack_plainly(c->kind, proved_call(&plain, c, plain_rows));
+    struct lent plain_rows = lend_rows(c->kind, c->row_count), rows = lend_rows(c->kind, c->row_count);
+    uint32_t price = 0;
+    plain_rows.price = &price;
+    uint64_t number = proved_call(&plain, c, &plain_rows);
+    struct answer expected = unpack_plainly(c->kind, number, price);
     if (!readers_agree(&lent)) fail("a reader of the header reads something else", p, c);
-    struct answer a = wrapped_call(&lent, c, rows);
+    struct answer a = wrapped_call(&lent, c, &rows);
     if (memcmp(&a, &expected, sizeof a) != 0) fail("a wrapper of the header answers something else", p, c);
     if (!same_words(&wrapped, &plain) || !guards_hold(&wrapped)) fail("a wrapper of the header writes other words", p, c);
-    if (!same_rows(rows, plain_rows, c->row_count)) fail("a wrapper of the header fills other rows", p, c);
+    if (!same_rows(&rows, &plain_rows, c->row_count)) fail("a wrapper of the header fills other rows", p, c);
     if (!readers_agree(&lent)) fail("a reader of the header reads something else after the call", p, c);
     counts.wrapped++;
-    free(plain_rows);
-    free(rows);
+    free_rows(&plain_rows);
+    free_rows(&rows);
     free_store(&plain);
     free_store(&wrapped);
 }
@@ -80,12 +87,15 @@ static void check_life(void) {
     static struct guontrem_store store = GUONTREM_STORE(entries, levels);
     struct guontrem_settings settings = {3, 2, 2, 9}, wrong = {3, 2, 65, 9};
     memset(entries, 0xa5, sizeof entries);
-    require(store.entries == entries && store.entry_words == 28 && store.levels == levels && store.level_words == 20, "the initializer's tables");
+    require(store.entries == entries && store.entry_words == 35 && store.levels == levels && store.level_words == 20, "the initializer's tables");
     require(guontrem_store_make(&store, wrong) == GUONTREM_SETTINGS, "settings out of range");
     require(guontrem_store_make(&store, settings) == GUONTREM_ACCEPTED, "a making");
     require(settings_are(&store, 3, 2, 2, 9) && guontrem_store_slots(&store) == 6, "the settings of a fresh store");
     require(guontrem_store_clock(&store) == 0, "the clock of a fresh store");
-    require(guontrem_store_put(&store, 5, 7, 70).refusal == GUONTREM_ACCEPTED && guontrem_store_clock(&store) == 5, "the clock of a put");
+    require(guontrem_store_put(&store, 5, 7, 70, 3).refusal == GUONTREM_ACCEPTED && guontrem_store_clock(&store) == 5, "the clock of a put");
+    require(guontrem_store_lookup(&store, 7).count == 70 && guontrem_store_lookup(&store, 7).price == 3, "count and price of a put");
+    require(guontrem_store_lookup_count(&store, 7).count == 70 && guontrem_store_lookup_count(&store, 7).stamp == 5, "the grower's count and stamp");
+    require(guontrem_store_lookup(&store, 8).price == 0 && guontrem_store_lookup(&store, 65536).price == 0, "the price of no docket");
     require(guontrem_store_tick(&store, 4).refusal == GUONTREM_CLOCK && guontrem_store_clock(&store) == 5, "the clock after a refused tick");
     require(guontrem_store_tick(&store, UINT32_MAX).refusal == GUONTREM_ACCEPTED && guontrem_store_clock(&store) == UINT32_MAX, "the last clock there is");
     require(settings_are(&store, 3, 2, 2, 9), "the settings after calls");
@@ -95,10 +105,10 @@ static void check_life(void) {
 static void check_lengths(void) {
     for (uint32_t slots = GUONTREM_MIN_SLOTS; slots <= GUONTREM_MAX_SLOTS; slots++) {
         require(guontrem_read_slots(GUONTREM_ENTRY_WORDS(slots)) == slots, "the slots of an allowed length");
-        require(guontrem_read_slots(GUONTREM_ENTRY_WORDS(slots) + 1 + slots % 3) == 0, "the slots of a length that is no multiple of four");
+        require(guontrem_read_slots(GUONTREM_ENTRY_WORDS(slots) + 1 + slots % 4) == 0, "the slots of a length that is no multiple of five");
     }
     require(guontrem_read_slots(0) == 0 && guontrem_read_slots(GUONTREM_ENTRY_WORDS(0)) == 0, "the slots of too short a table");
-    require(guontrem_read_slots(GUONTREM_ENTRY_WORDS(GUONTREM_MAX_SLOTS + 1)) == 0 && guontrem_read_slots(SIZE_MAX - 3) == 0, "the slots of too long a table");
+    require(guontrem_read_slots(GUONTREM_ENTRY_WORDS(GUONTREM_MAX_SLOTS + 1)) == 0 && guontrem_read_slots(SIZE_MAX / GUONTREM_SLOT_WORDS * GUONTREM_SLOT_WORDS) == 0, "the slots of too long a table");
 }
 
 void check_wrappers(void) {

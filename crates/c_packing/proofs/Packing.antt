@@ -3,15 +3,15 @@ use mathlib.Core.Path.{_≡_}
 use mathlib.Core.Bool.{true, false}
 use Prim.Native.Nat.{ℕ, _+_, _*_}
 use native.Mathlib.Omega.{arith}
-use Rattle.lookup.specs.declared.Answer.the-variants.{Refused, Found}
+use Rattle.lookup.specs.declared.CountAnswer.the-variants.{Refused, Found}
 use Rattle.scan.specs.declared.Scanned.{Scanned}
 use Rattle.c_packing.specs.Packed.{packed, packed-scan}
 
 pub packed-refused : (n : ℕ) → n ≡ packed (Refused n)
 packed-refused n = omega arith
 
-pub packed-found : (tally stamp : ℕ) → tally + 4294967296 * stamp ≡ packed (Found tally stamp)
-packed-found tally stamp = omega arith
+pub packed-found : (count stamp : ℕ) → count + 4294967296 * stamp ≡ packed (Found count stamp)
+packed-found count stamp = omega arith
 
 module _ (a : Scanned) where
   pub packed-more : a .more ≡ true → a .count + 4294967296 * a .next + 281474976710656 + 72057594037927936 * a .refusal ≡ packed-scan a

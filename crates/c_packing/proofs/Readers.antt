@@ -8,9 +8,8 @@ use lib.Dec.{eqb}
 use lib.Arith.{digits-div, digits-mod}
 use borrow.Author.Tests.{ne-eqb}
 use Rattle.model.specs.Calls as model
-use Rattle.lookup.specs.declared.Answer.{Answer}
-use Rattle.lookup.specs.declared.Answer.the-variants.{Refused, Absent, Found}
-use Rattle.lookup.specs.Lookup.{numbers}
+use Rattle.lookup.specs.declared.CountAnswer.the-variants.{Refused, Found}
+use Rattle.lookup.specs.Counts.{count-numbers}
 use Rattle.scan.specs.declared.Scanned.{Scanned}
 use Rattle.c_packing.specs.Packed.{packed, answer-number, packed-scan}
 use Rattle.c_packing.specs.Readers.{read-timed, read-lookup, read-scan}
@@ -39,15 +38,15 @@ module _ (r : model.Answer) (f : r .refusal < 256) (m : r .merges < 256) (p : r 
   timed-read = rw (refusal-is, merges-is, purged-is)
 
 -- A refusal stands in the lower half alone, and a docket that is found has a stamp.
-pub refused-read : (n : ℕ) → n < 4294967296 → read-lookup (packed (Refused n)) ≡ numbers (Refused n)
+pub refused-read : (n : ℕ) → n < 4294967296 → read-lookup (packed (Refused n)) ≡ count-numbers (Refused n)
 refused-read n low = rw (above (packed (Refused n)) 0 4294967296 n (omega arith) low, below (packed (Refused n)) 0 4294967296 n (omega arith) low)
 
-pub found-read : (tally stamp : ℕ) → tally < 4294967296 → 1 ≤ stamp → stamp < 4294967296
-    → read-lookup (packed (Found tally stamp)) ≡ numbers (Found tally stamp)
-found-read tally stamp low some high =
+pub found-read : (count stamp : ℕ) → count < 4294967296 → 1 ≤ stamp → stamp < 4294967296
+    → read-lookup (packed (Found count stamp)) ≡ count-numbers (Found count stamp)
+found-read count stamp low some high =
     rw (
-      above (packed (Found tally stamp)) stamp 4294967296 tally (omega arith) low,
-      below (packed (Found tally stamp)) stamp 4294967296 tally (omega arith) low,
+      above (packed (Found count stamp)) stamp 4294967296 count (omega arith) low,
+      below (packed (Found count stamp)) stamp 4294967296 count (omega arith) low,
       ne-eqb stamp 0 (omega arith),
       mod-eq-of-lt high,
     )

@@ -3,13 +3,23 @@ use mathlib.Core.Bool.{cond}
 use Prim.Native.Nat.{ℕ, _+_, _*_}
 use Rattle.model.specs.Calls as model
 use Rattle.lookup.specs.declared.Answer.{Answer}
+use Rattle.lookup.specs.declared.CountAnswer.{CountAnswer}
 use Rattle.lookup.specs.Lookup.{numbers}
+use Rattle.lookup.specs.Counts.{count-numbers, without-price}
 use Rattle.scan.specs.declared.Scanned.{Scanned}
 use Rattle.call_tables.specs.Calls.{Tables, Called}
 
--- A lookup's, by document 01's numbers of it: tally and stamp in its halves; a refusal, which has neither, in the lower one.
-abbrev pub packed : Answer → ℕ
-packed a = let n = numbers a in n .refusal + n .tally + 4294967296 * n .stamp
+-- The grower's lookup's, by document 01's numbers of it: count and stamp in its halves; a refusal, which has neither, in the lower one.
+abbrev pub packed : CountAnswer → ℕ
+packed a = let n = count-numbers a in n .refusal + n .count + 4294967296 * n .stamp
+
+-- The hall's: the same number, and the price in a place of its own.
+pub record PackedLookup : Type 0 where
+  pub number : ℕ
+  pub price : ℕ
+
+abbrev pub packed-lookup : Answer → PackedLookup
+packed-lookup a = record { number = packed (without-price a); price = numbers a .price }
 
 -- A timed call's: purged in the lower half, merges from bit 32, the refusal from bit 40.
 abbrev pub answer-number : model.Answer → ℕ

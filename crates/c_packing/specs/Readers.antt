@@ -4,7 +4,7 @@ use mathlib.Core.Bool.{cond}
 use Prim.Native.Nat.{ℕ, _/_, _%_}
 use lib.Dec.{eqb}
 use Rattle.model.specs.Calls as model
-use Rattle.lookup.specs.Lookup.{Numbers}
+use Rattle.lookup.specs.Counts.{CountNumbers}
 use Rattle.scan.specs.declared.Scanned.{Scanned}
 
 -- `guontrem_timed_refusal` is `(uint32_t)(answer >> 40)`, `_merges` `(uint32_t)(answer >> 32 & 0xff)`, `_purged` `(uint32_t)answer`.
@@ -12,13 +12,13 @@ use Rattle.scan.specs.declared.Scanned.{Scanned}
 abbrev pub read-timed : ℕ → model.Answer
 read-timed n = record { refusal = n / 1099511627776 % 4294967296; merges = n / 4294967296 % 256; purged = n % 4294967296 }
 
--- `guontrem_lookup_found` is `answer >> 32 != 0`. Found: `_tally` is `(uint32_t)answer`, `_refusal` 0; else the other way round.
+-- `guontrem_lookup_found` is `answer >> 32 != 0`. Found: `_count_of` is `(uint32_t)answer`, `_refusal` 0; else the other way round.
 -- `_stamp` is `(uint32_t)(answer >> 32)`.
-abbrev pub read-lookup : ℕ → Numbers
+abbrev pub read-lookup : ℕ → CountNumbers
 read-lookup n = record {
   refusal = cond (eqb (n / 4294967296) 0) (n % 4294967296) 0;
   found = cond (eqb (n / 4294967296) 0) 0 1;
-  tally = cond (eqb (n / 4294967296) 0) 0 (n % 4294967296);
+  count = cond (eqb (n / 4294967296) 0) 0 (n % 4294967296);
   stamp = n / 4294967296 % 4294967296;
 }
 

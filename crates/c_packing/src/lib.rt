@@ -1,11 +1,13 @@
 // The answers of the calls, each as one number.
 use lookup::Answer;
+use lookup::CountAnswer;
 use scan::Scanned;
 ghost use mathlib.Core.Path.{_≡_};
 ghost use Prim.Native.Nat.{_<_, _≤_};
+ghost use Rattle.lookup.specs.Lookup.{numbers};
 ghost use Rattle.c_packing.specs.Packed.{packed, answer-number, packed-scan};
 
-// Stamps stand above the tally.
+// Stamps stand above the count.
 const STAMP_UNIT: u64 = 4294967296;
 
 // Merges stand above the purged records, and the refusal above the merges.
@@ -20,14 +22,25 @@ const MORE_UNIT: u64 = 281474976710656;
 
 const SCAN_REFUSAL_UNIT: u64 = 72057594037927936;
 
-// The answer of a lookup as one number.
-pub fn pack_lookup(answer: Answer) -> u64
+// The answer of a lookup as one number, which has no room for a price.
+pub fn pack_lookup(answer: CountAnswer) -> u64
     ensures { λ r. ⌜ r ≡ packed answer ⌝ }
 {
     match answer {
-        Answer::Refused(number) => number as u64,
+        CountAnswer::Refused(number) => number as u64,
+        CountAnswer::Absent => 0,
+        CountAnswer::Found(count, stamp) => count as u64 + STAMP_UNIT * stamp as u64,
+    }
+}
+
+// The price that goes beside it: 0 where the docket is absent or the lookup refused.
+pub fn price_of(answer: Answer) -> u32
+    ensures { λ r. ⌜ r ≡ numbers answer .price ⌝ }
+{
+    match answer {
+        Answer::Refused(_) => 0,
         Answer::Absent => 0,
-        Answer::Found(tally, stamp) => tally as u64 + STAMP_UNIT * stamp as u64,
+        Answer::Found(tally, _) => tally.price,
     }
 }
 

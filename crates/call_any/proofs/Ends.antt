@@ -6,6 +6,7 @@ use mathlib.Core.List.{List}
 use Prim.Native.Nat.{ℕ, _+_, _-_, _≤_}
 use native.Mathlib.Omega.{arith}
 use Rattle.settings.proofs.Allowed.{allowed-bounds}
+use Rattle.model.specs.declared.Tally.{Tally}
 use Rattle.model.specs.Records.{State, held-all}
 use Rattle.model.specs.Steps.{Work, begin, merge-all, crowded, make-room, write, pass}
 use Rattle.model.specs.Calls.{Op, written, flush, tick, Call, refusing, count-written, timed, prepared, step}
@@ -26,22 +27,22 @@ use Rattle.call_prepare.specs.declared.Prepared.{Prepared}
 use Rattle.call_prepare.specs.Writing.{Prepares}
 
 -- A call that is turned away by the number that the code found.
-pub away : {e l : List ℕ} {t : ℕ} {op : Op ℕ} {n : ℕ} → Asked e l t op n → n ≢ 0 → (r : Answer) → answer-of r ≡ refusing n
+pub away : {e l : List ℕ} {t : ℕ} {op : Op Tally} {n : ℕ} → Asked e l t op n → n ≢ 0 → (r : Answer) → answer-of r ≡ refusing n
     → called e l r ≡ call-tables (lent e l) (record { clock = t; op = op })
 away asked some r q = rw q (sym (turned-away asked some))
 
-module _ {e l : List ℕ} {t : ℕ} {op : Op ℕ} (b : Began e l t op) where
-  abbrev p : State ℕ ℕ
+module _ {e l : List ℕ} {t : ℕ} {op : Op Tally} (b : Began e l t op) where
+  abbrev p : State ℕ Tally
   p = read-state e l
 
-  abbrev c : Call ℕ
+  abbrev c : Call Tally
   c = record { clock = t; op = op }
 
   -- What the operation has done when its pass begins, and what the pass leaves.
-  abbrev work : Work ℕ ℕ
+  abbrev work : Work ℕ Tally
   work = prepared t op p
 
-  abbrev after : Work ℕ ℕ
+  abbrev after : Work ℕ Tally
   after = pass t (begin (work .state))
 
   -- On sound tables the call is a step of what they read as.
@@ -76,7 +77,7 @@ module _ {e l : List ℕ} {t : ℕ} {op : Op ℕ} (b : Began e l t op) where
       room true = omega (arith, shallow, merge-all-merges p)
       room false = omega arith
 
-      go : (o : Op ℕ) → prepared t o p .merges ≤ 6
+      go : (o : Op Tally) → prepared t o p .merges ≤ 6
       go (written v) = room (crowded t v p)
       go flush = omega (arith, merge-level-merges 0 (begin p))
       go tick = omega arith

@@ -4,6 +4,7 @@ use mathlib.Core.List.{List}
 use Prim.Native.Nat.{ℕ, _+_, _-_, _≤_}
 use native.Mathlib.Omega.{arith}
 use Rattle.settings.proofs.Allowed.{allowed-bounds}
+use Rattle.model.specs.declared.Tally.{Tally}
 use Rattle.model.specs.Records.{State, held-all}
 use Rattle.model.specs.Steps.{begin, pass}
 use Rattle.model.specs.Calls.{timed}
@@ -16,14 +17,14 @@ use Rattle.call_end.specs.Ending.{Ending, Ended}
 use Rattle.call_end.proofs.Laying.{clock-set, clocked}
 
 -- The clock stands in the entry table alone.
-timed-levels : (t : ℕ) (p : State ℕ ℕ) → level-words (timed t p) ≡ level-words p
+timed-levels : (t : ℕ) (p : State ℕ Tally) → level-words (timed t p) ≡ level-words p
 unfolding level-words
 timed-levels t p = refl
 
 -- A call at its end, and the tables once its pass is done.
 module _ {g : Store} {e l : List ℕ} {t before merges : ℕ} (d : Ending g e l t before merges) {e′ l′ : List ℕ} {more : ℕ}
     (w : Worked g (pass t (begin (g .state))) e′ l′ more) where
-  abbrev after : State ℕ ℕ
+  abbrev after : State ℕ Tally
   after = pass t (begin (g .state)) .state
 
   pub merges-fit : merges + more ≤ 12

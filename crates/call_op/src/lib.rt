@@ -1,4 +1,5 @@
 // The operations of the timed calls: the dockets that each names, its date, and the work that it is before its pass.
+use model::Tally;
 use table_slots::DELETE;
 use table_slots::PUT;
 use table_slots::RANGE;
@@ -13,7 +14,7 @@ ghost use Rattle.call_op.specs.Works.{work-of};
 
 // What a timed call does: a put of a docket and its tally, a delete of a docket, a delete of the dockets from lo to hi by a date, a flush or a tick.
 pub enum Op {
-    Put(u32, u32),
+    Put(u32, Tally),
     Delete(u32),
     DeleteRange(u32, u32, u32),
     Flush,
@@ -94,12 +95,19 @@ pub fn work_of(op: Op) -> Work
 {
     match op {
         Op::Put(docket, tally) => Work::Write(point_record(PUT, docket, tally)),
-        Op::Delete(docket) => Work::Write(point_record(DELETE, docket, 0)),
+        Op::Delete(docket) => Work::Write(point_record(
+            DELETE,
+            docket,
+            Tally { count: 0, price: 0 },
+        )),
         Op::DeleteRange(lo, hi, date) => Work::Write(Record {
             kind: RANGE,
             lo: lo,
             hi: hi,
-            tally: date,
+            tally: Tally {
+                count: date,
+                price: 0,
+            },
         }),
         Op::Flush => Work::Merge,
         Op::Tick => Work::Nothing,
@@ -107,7 +115,7 @@ pub fn work_of(op: Op) -> Work
 }
 
 // The record of a put or a delete of one docket.
-fn point_record(kind: u32, docket: u32, tally: u32) -> Record
+fn point_record(kind: u32, docket: u32, tally: Tally) -> Record
     ensures { λ r. ⌜ r ≡ record { kind = kind; lo = docket; hi = docket; tally = tally } ⌝ }
 {
     Record {

@@ -3,6 +3,7 @@ use mathlib.Core.Path.{_≡_, refl, ap, _∙_}
 use mathlib.Core.Bool.{true, false, not}
 use Prim.Native.Nat.{ℕ, _<_}
 use Rattle.lists.specs.Lists.{none}
+use Rattle.model.specs.declared.Tally.{Tally}
 use Rattle.model.specs.Records.{State}
 use Rattle.model.specs.Merge.{release}
 use Rattle.model.specs.Steps.{Write, put, delete, delete-range, merge-state, merge-all, displaced, enter, act-deepest, crowded, make-room, full, write, no-slot}
@@ -11,16 +12,16 @@ use Rattle.model.proofs.Keeps.{has-room, merge-all-keeps}
 use Rattle.write_act.specs.Acting.{can-act}
 
 -- A write that is not out of slots, and the work that it does before its pass.
-pub record Leads (t : ℕ) (v : Write ℕ) (s q : State ℕ ℕ) (m : ℕ) : Type 0 where
+pub record Leads (t : ℕ) (v : Write Tally) (s q : State ℕ Tally) (m : ℕ) : Type 0 where
   pub work : prepared t (written v) s ≡ record { state = q; merges = m }
   pub slot : out-of-slots t (written v) s ≡ false
 
-module _ (t : ℕ) (v : Write ℕ) (s : State ℕ ℕ) where
+module _ (t : ℕ) (v : Write Tally) (s : State ℕ Tally) where
   not-full : full t v s ≡ false → out-of-slots t (written v) s ≡ false
   unfolding no-slot
   not-full f = go v f
     where
-      go : (w : Write ℕ) → full t w s ≡ false → no-slot t w s ≡ false
+      go : (w : Write Tally) → full t w s ≡ false → no-slot t w s ≡ false
       go (put k a) q = rw q
       go (delete k) q = refl
       go (delete-range lo hi date) q = refl
@@ -56,7 +57,7 @@ module _ (t : ℕ) (v : Write ℕ) (s : State ℕ ℕ) where
       unfolding no-slot full
       no-slot-is = go v c
         where
-          go : (w : Write ℕ) → crowded t w s ≡ true → no-slot t w s ≡ not (can-act w (merge-all s .state))
+          go : (w : Write Tally) → crowded t w s ≡ true → no-slot t w s ≡ not (can-act w (merge-all s .state))
           go (put k a) q = rw (q, n, same)
           go (delete k) q = refl
           go (delete-range lo hi date) q = refl
@@ -65,6 +66,6 @@ module _ (t : ℕ) (v : Write ℕ) (s : State ℕ ℕ) where
       unfolding prepared write make-room full
       acts h m q = record { work = rw (c, n, q); slot = no-slot-is ∙ ap not h }
 
-pub merged-settings : (s : State ℕ ℕ) → 0 < s .settings .deepest → merge-all s .state .settings ≡ s .settings
+pub merged-settings : (s : State ℕ Tally) → 0 < s .settings .deepest → merge-all s .state .settings ≡ s .settings
 unfolding merge-state
 merged-settings s h = merge-all-keeps (λ x. 0 < x .settings .deepest) (λ x p. p) (λ i x a p. p) s h .1

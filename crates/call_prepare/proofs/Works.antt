@@ -4,6 +4,7 @@ use mathlib.Core.Bool.{false, false≢true}
 use mathlib.Core.List.{List}
 use Prim.Native.Nat.{ℕ}
 use Rattle.lists.specs.All.{Exists}
+use Rattle.model.specs.declared.Tally.{Tally}
 use Rattle.model.specs.Steps.{begin, merge-level}
 use Rattle.model.specs.Calls.{Op, written, flush, tick, prepared}
 use Rattle.tables.specs.Placed.{read-state}
@@ -16,7 +17,7 @@ use Rattle.call_refusal.specs.Began.{Began, store}
 use Rattle.call_prepare.specs.Writing.{Writes, Prepares}
 
 -- An operation whose work is a record is a write of that record.
-pub writes : {e l : List ℕ} {t : ℕ} (o : Op ℕ) {w : Record} → Began e l t o → Write w ≡ work-of o → Exists (λ v. (o ≡ written v) × Writes v e l t w)
+pub writes : {e l : List ℕ} {t : ℕ} (o : Op Tally) {w : Record} → Began e l t o → Write w ≡ work-of o → Exists (λ v. (o ≡ written v) × Writes v e l t w)
 writes o b is =
     let x = is-written o (sym is) in
     record { value = x .value; has = (x .has .0, record { began = rw (x .has .0) at b; write-is = x .has .1 }) }

@@ -6,6 +6,7 @@ use mathlib.Core.List.{List}
 use Prim.Native.Nat.{ℕ}
 use Rattle.lists.specs.Lists.{none}
 use Rattle.lists.proofs.Branches.{fails, holds}
+use Rattle.model.specs.declared.Tally.{Tally}
 use Rattle.model.specs.Records.{State}
 use Rattle.model.specs.Merge.{release}
 use Rattle.model.specs.Steps.{Write, merge-all, displaced, enter, act-deepest, crowded}
@@ -25,7 +26,7 @@ use Rattle.call_prepare.specs.Writing.{Writes, Crowded, Prepares}
 use Rattle.call_prepare.proofs.Preparing.{Leads, enters, enters-room, enters-after, enters-after-room, no-slot-is, acts, merged-settings}
 
 -- A write that is not out of slots and leads to the state q.
-prepares : {e l : List ℕ} {t : ℕ} {v : Write ℕ} {q : State ℕ ℕ} {m : ℕ} → Leads t v (read-state e l) q m
+prepares : {e l : List ℕ} {t : ℕ} {v : Write Tally} {q : State ℕ Tally} {m : ℕ} → Leads t v (read-state e l) q m
     → {e′ l′ : List ℕ} → Laid (at-state (store e l t) q) e′ l′ → Prepares e l t (written v) e′ l′ (record { full = false; merges = m })
 prepares r d = record {
   full-is = sym (r .slot);
@@ -34,7 +35,7 @@ prepares r d = record {
 }
 
 -- A write with room.
-module _ {v : Write ℕ} {e l : List ℕ} {t : ℕ} {w : Record} (k : Writes v e l t w) (room : crowded t v (read-state e l) ≡ false) where
+module _ {v : Write Tally} {e l : List ℕ} {t : ℕ} {w : Record} (k : Writes v e l t w) (room : crowded t v (read-state e l) ≡ false) where
   pub entering : Entering (store e l t) e l t w
   entering = record {
     write = v;
@@ -50,12 +51,12 @@ module _ {v : Write ℕ} {e l : List ℕ} {t : ℕ} {w : Record} (k : Writes v e
   entered = prepares (enters t v (read-state e l) room)
 
 -- A crowded write, once levels 0 to L−1 are merged.
-module _ {v : Write ℕ} {e l : List ℕ} {t : ℕ} {w : Record} (k : Crowded v e l t w)
+module _ {v : Write Tally} {e l : List ℕ} {t : ℕ} {w : Record} (k : Crowded v e l t w)
     {e′ l′ : List ℕ} {m : ℕ} (d : Worked (store e l t) (merge-all (read-state e l)) e′ l′ m) where
-  abbrev p : State ℕ ℕ
+  abbrev p : State ℕ Tally
   p = read-state e l
 
-  abbrev merged : State ℕ ℕ
+  abbrev merged : State ℕ Tally
   merged = merge-all p .state
 
   module _ (f : first-free e′ ≢ 0) where

@@ -10,6 +10,7 @@ use write_enter::enter;
 use write_record::Record;
 use write_record::is_crowded;
 ghost use Prim.Native.Nat.{ℕ};
+ghost use Rattle.model.specs.declared.Tally.{Tally};
 ghost use Rattle.lists.specs.All.{Exists};
 ghost use Rattle.model.specs.Steps.{Write};
 ghost use Rattle.model.specs.Calls.{written};
@@ -44,7 +45,7 @@ pub fn prepare(e: &mut [u32], l: &mut [u32], clock: u32, op: Op) -> Prepared
 // A write, where there is room or once room is made.
 fn write(e: &mut [u32], l: &mut [u32], clock: u32, w: Record) -> Prepared
     requires { ⌜ Exists (λ v. Writes v (now e) (now l) clock w) ⌝ }
-    ensures { λ r. ⌜ ((v : Write ℕ) → Writes v (now (e .entry)) (now (l .entry)) clock w
+    ensures { λ r. ⌜ ((v : Write Tally) → Writes v (now (e .entry)) (now (l .entry)) clock w
         → Prepares (now (e .entry)) (now (l .entry)) clock (written v) (now (e .exit)) (now (l .exit)) r) ⌝ }
 {
     if is_crowded(e, l, w) {
@@ -60,7 +61,7 @@ fn write(e: &mut [u32], l: &mut [u32], clock: u32, w: Record) -> Prepared
 // Where the buffer has no room the levels are merged first; then into the buffer, or onto level L where no slot is free even then.
 fn write_crowded(e: &mut [u32], l: &mut [u32], clock: u32, w: Record) -> Prepared
     requires { ⌜ Exists (λ v. Crowded v (now e) (now l) clock w) ⌝ }
-    ensures { λ r. ⌜ ((v : Write ℕ) → Crowded v (now (e .entry)) (now (l .entry)) clock w
+    ensures { λ r. ⌜ ((v : Write Tally) → Crowded v (now (e .entry)) (now (l .entry)) clock w
         → Prepares (now (e .entry)) (now (l .entry)) clock (written v) (now (e .exit)) (now (l .exit)) r) ⌝ }
 {
     let merges = merge_all(e, l);

@@ -9,12 +9,13 @@ use lib.Dec.{eqb, ltb}
 use borrow.Author.Tests.{eq-eqb, ne-eqb, eqb-true, eqb-false, ltb-false, lt-ltb, le-ltb}
 use Rattle.settings.proofs.Allowed.{allowed-bounds}
 use Rattle.lists.proofs.Bools.{or-false-left, or-false-right}
+use Rattle.model.specs.declared.Tally.{Tally}
 use Rattle.model.specs.Calls.{Op, Call, refusing, bad-docket, bad-clock, bad-date, early-refusal, step}
 use Rattle.model.proofs.StepView.{let-in-docket, let-in-time, let-in-date}
 use Rattle.tables.specs.Slots.{slots-of, InTable, clock-of}
 use Rattle.tables.specs.Words.{Fits32}
 use Rattle.tables.specs.Sound.{table-refusal}
-use Rattle.tables.specs.Placed.{read-state}
+use Rattle.tables.specs.Placed.{read-state, state-as}
 use Rattle.tables.specs.Formed.{Formed}
 use Rattle.tables.proofs.Back.{formed-holds}
 use Rattle.tables.proofs.FormedSound.{sound-words}
@@ -27,7 +28,7 @@ use Rattle.call_tables.proofs.Runs.{rewritten}
 use Rattle.merge_levels.specs.Laid.{Laid}
 use Rattle.call_refusal.specs.Began.{call-refusal, Began, store}
 
-module _ {e l : List ℕ} {t : ℕ} {op : Op ℕ} (b : Began e l t op) where
+module _ {e l : List ℕ} {t : ℕ} {op : Op Tally} (b : Began e l t op) where
   from-1 : t ≢ 0
   from-1 = eqb-false t 0 (or-false-left (eqb t 0) (ltb t (clock-of e)) (b .time))
 
@@ -38,7 +39,7 @@ module _ {e l : List ℕ} {t : ℕ} {op : Op ℕ} (b : Began e l t op) where
   not-before = ltb-false t (clock-of e) (or-false-right (eqb t 0) (ltb t (clock-of e)) (b .time))
 
   pub begun-time : bad-clock t (read-state e l .clock) ≡ false
-  unfolding read-state
+  unfolding state-as
   begun-time = b .time
 
   pub begun-formed : Formed (slots-of e) (read-state e l)
@@ -48,7 +49,7 @@ module _ {e l : List ℕ} {t : ℕ} {op : Op ℕ} (b : Began e l t op) where
   begun-deep = omega (arith, allowed-bounds (read-state e l .settings) (begun-formed .settings-ok) .deepest-low)
 
   pub begun-laid : Laid (store e l t) e l
-  unfolding read-state
+  unfolding state-as
   begun-laid = record {
     formed = timed-formed (slots-of e) t (read-state e l) not-before begun-formed;
     entries = rw (sym (sound-words e l (b .fits) (b .sound) .entries)) at (formed-holds (slots-of e) (read-state e l) begun-formed);
@@ -56,14 +57,14 @@ module _ {e l : List ℕ} {t : ℕ} {op : Op ℕ} (b : Began e l t op) where
   }
 
 -- The number r was found for an operation that names the dockets from lo to hi.
-pub record Checked (e l : List ℕ) (op : Op ℕ) (r : ℕ) : Type 0 where
+pub record Checked (e l : List ℕ) (op : Op Tally) (r : ℕ) : Type 0 where
   pub lo : ℕ
   pub hi : ℕ
   pub dockets : bad-docket op ≡ bad-dockets lo hi
   pub number : r ≡ docket-refusal e l lo hi
 
 -- The number that the code's tests give, one way out after the other.
-module _ {e l : List ℕ} {op : Op ℕ} {r : ℕ} (found : Checked e l op r) where
+module _ {e l : List ℕ} {op : Op Tally} {r : ℕ} (found : Checked e l op r) where
   -- The tables and the dockets are asked for first, whatever the clock.
   pub refused-dockets : (t : ℕ) → r ≢ 0 → r ≡ call-refusal e l (record { clock = t; op = op })
   refused-dockets t = go (eqb (table-refusal e l) 0) (bad-docket op) _ (rw (← found .dockets) at (found .number))
@@ -81,7 +82,7 @@ module _ {e l : List ℕ} {op : Op ℕ} {r : ℕ} (found : Checked e l op r) whe
     in-range = found .dockets ∙ allowed-dockets e l (found .lo) (found .hi) (sym (found .number) ∙ z)
 
     module _ (t : ℕ) where
-      abbrev call : Call ℕ
+      abbrev call : Call Tally
       call = record { clock = t; op = op }
 
       pub refused-zero : t ≡ 0 → 5 ≡ call-refusal e l call
@@ -103,12 +104,12 @@ pub sound-slot-zero : (e l : List ℕ) → table-refusal e l ≡ 0 → InTable e
 sound-slot-zero e l h = let f = sound-facts e l h in omega (arith, f .length-entries, f .few)
 
 -- The number n was found for a call.
-pub record Asked (e l : List ℕ) (t : ℕ) (op : Op ℕ) (n : ℕ) : Type 0 where
+pub record Asked (e l : List ℕ) (t : ℕ) (op : Op Tally) (n : ℕ) : Type 0 where
   pub fits : Fits32 e
   pub number : n ≡ call-refusal e l (record { clock = t; op = op })
 
-module _ {e l : List ℕ} {t : ℕ} {op : Op ℕ} {n : ℕ} (a : Asked e l t op n) where
-  abbrev asked : Call ℕ
+module _ {e l : List ℕ} {t : ℕ} {op : Op Tally} {n : ℕ} (a : Asked e l t op n) where
+  abbrev asked : Call Tally
   asked = record { clock = t; op = op }
 
   abbrev early : ℕ
@@ -136,7 +137,7 @@ module _ {e l : List ℕ} {t : ℕ} {op : Op ℕ} {n : ℕ} (a : Asked e l t op 
 
   -- On sound tables the step turns it away, and what they read as is written as it was.
   turned-sound : table-refusal e l ≡ 0 → early ≢ 0 → call-tables (lent e l) asked ≡ kept early
-  unfolding call-tables step read-state
+  unfolding call-tables step state-as
   turned-sound sound some =
       rw (sound, ne-eqb early 0 some) (ap (λ (w : Tables). record { tables = w; answer = refusing early }) (rewritten (lent e l) (a .fits) sound))
 

@@ -7,6 +7,7 @@ use lib.Dec.{eqb}
 use borrow.Author.Tests.{eqb-true}
 use Rattle.lists.proofs.Bools.{cond-elim, by-cases}
 use Rattle.settings.proofs.Allowed.{allowed-bounds}
+use Rattle.model.specs.declared.Tally.{Tally}
 use Rattle.model.specs.Records.{State}
 use Rattle.model.specs.Steps.{crowded}
 use Rattle.model.specs.Calls.{Op, written, flush, tick, Call, Answer, count-written, early-refusal, out-of-slots, refusing, step}
@@ -27,13 +28,13 @@ use Rattle.tables.proofs.Numbers.{tables-refuse-low}
 use Rattle.call_tables.proofs.Refusals.{refused-exactly}
 
 -- An operation writes one record at most.
-pub written-most : (op : Op ℕ) → count-written op ≤ 1
+pub written-most : (op : Op Tally) → count-written op ≤ 1
 written-most (written v) = omega arith
 written-most flush = omega arith
 written-most tick = omega arith
 
-module _ (w : Tables) (c : Call ℕ) where
-  abbrev p : State ℕ ℕ
+module _ (w : Tables) (c : Call Tally) where
+  abbrev p : State ℕ Tally
   p = read-state (w .entries) (w .levels)
 
   -- Refusals are 1 to 10.
@@ -49,7 +50,7 @@ module _ (w : Tables) (c : Call ℕ) where
       go true false o t h = omega (arith, early-most (p .clock) c)
       go false b o t h = omega arith
 
-  most : (op : Op ℕ) → p .settings .deepest ≤ 6 → most-merges (c .clock) op p ≤ 12
+  most : (op : Op Tally) → p .settings .deepest ≤ 6 → most-merges (c .clock) op p ≤ 12
   most (written v) h = room (crowded (c .clock) v p)
     where
       room : (b : Bool) → cond b (p .settings .deepest) 0 + p .settings .deepest ≤ 12

@@ -8,6 +8,7 @@ use lib.Dec.{eqb}
 use borrow.Author.Tests.{eqb-true, ne-eqb}
 use Rattle.settings.proofs.Allowed.{allowed-bounds}
 use Rattle.lists.proofs.Bools.{by-cases, cond-ap}
+use Rattle.model.specs.declared.Tally.{Tally}
 use Rattle.model.specs.Records.{State}
 use Rattle.model.specs.Steps.{delete, delete-range, merge-all, no-slot}
 use Rattle.model.specs.Calls.{Call, Outcome, written, early-refusal, out-of-slots, refusing, step}
@@ -18,15 +19,15 @@ use Rattle.model.proofs.Demands as model
 use Rattle.tables.specs.Words.{Fits32}
 use Rattle.tables.specs.Slots.{slots-of, clock-of}
 use Rattle.tables.specs.Sound.{table-refusal}
-use Rattle.tables.specs.Placed.{read-state, entry-words}
+use Rattle.tables.specs.Placed.{read-state, entry-words, state-as}
 use Rattle.tables.proofs.Numbers.{tables-refuse-low}
 use Rattle.tables.proofs.FormedSound.{words-sound, sound-words}
 use Rattle.tables.proofs.Back.{written-reads}
 use Rattle.tables.proofs.FormedSteps.{step-formed, merge-all-formed}
 use Rattle.call_tables.specs.Calls.{Tables, Called, words, wrote, call-tables, refusal-number, merged-tables}
 
-module _ (w : Tables) (c : Call ℕ) where
-  abbrev p : State ℕ ℕ
+module _ (w : Tables) (c : Call Tally) where
+  abbrev p : State ℕ Tally
   p = read-state (w .entries) (w .levels)
 
   abbrev t : ℕ
@@ -60,7 +61,7 @@ module _ (w : Tables) (c : Call ℕ) where
   unfolding accepted-outcome
   step-full = go (step p c) (step-view p c)
     where
-      go : (r : Outcome ℕ ℕ) → StepView p c r → r .answer .refusal ≡ 7 → r .state ≡ merge-all p .state
+      go : (r : Outcome ℕ Tally) → StepView p c r → r .answer .refusal ≡ 7 → r .state ≡ merge-all p .state
       go r (turned-away e) h = absurd (early-other (p .clock) c .0 h)
       go r (refused-7 e f) h = refl
       go r (passed e f) h = absurd (omega arith)
@@ -86,13 +87,13 @@ module _ (w : Tables) (c : Call ℕ) where
 
   -- And its clock word is as before.
   pub refused-7-clock : Fits32 (w .entries) → call-tables w c .answer .refusal ≡ 7 → clock-of (call-tables w c .tables .entries) ≡ clock-of (w .entries)
-  unfolding read-state
+  unfolding state-as
   refused-7-clock fits h =
       let n = slots-of (w .entries) in
       let f = sound-words (w .entries) (w .levels) fits (refused-7-sound h) .formed in
       let q = merge-all p .state in
       let deep = allowed-bounds (p .settings) (f .settings-ok) .deepest-low in
-      let back : clock-of (entry-words n q) ≡ q .clock = ap (λ (s : State ℕ ℕ). s .clock) (written-reads n q (merge-all-formed n p f)) in
+      let back : clock-of (entry-words n q) ≡ q .clock = ap (λ (s : State ℕ Tally). s .clock) (written-reads n q (merge-all-formed n p f)) in
       ap (λ (x : Tables). clock-of (x .entries)) (refused-7-leaves h) ∙ back ∙ merge-all-clock p (omega (arith, deep))
 
   -- A delete is never refused for lack of a slot, nor is anything but a put.
@@ -114,7 +115,7 @@ module _ (w : Tables) where
   delete-range-never-full t lo hi date = never-full w (record { clock = t; op = written (delete-range lo hi date) }) refl
 
   -- A call on sound tables, accepted or refused, leaves sound tables.
-  pub stays-sound : Fits32 (w .entries) → (c : Call ℕ) → table-refusal (w .entries) (w .levels) ≡ 0
+  pub stays-sound : Fits32 (w .entries) → (c : Call Tally) → table-refusal (w .entries) (w .levels) ≡ 0
       → table-refusal (call-tables w c .tables .entries) (call-tables w c .tables .levels) ≡ 0
   unfolding call-tables
   stays-sound fits c h =

@@ -7,6 +7,7 @@ use Prim.Native.Nat.{ℕ}
 use native.Mathlib.Omega.{arith}
 use lib.Dec.{eqb}
 use borrow.Author.Tests.{eqb-true, ne-eqb}
+use Rattle.model.specs.declared.Tally.{Tally}
 use Rattle.model.specs.Records.{State}
 use Rattle.model.specs.Calls.{Call, refusing, step, run, answers}
 use Rattle.model.specs.Erasure.{accepted}
@@ -22,20 +23,20 @@ use Rattle.tables.proofs.FormedSteps.{step-formed}
 use Rattle.call_tables.specs.Calls.{Tables, Called, lent, words, wrote, call-tables, run-tables, answers-tables}
 
 module _ (n : ℕ) where
-  pub words-slots : (p : State ℕ ℕ) → Formed n p → slots-of (entry-words n p) ≡ n
+  pub words-slots : (p : State ℕ Tally) → Formed n p → slots-of (entry-words n p) ≡ n
   words-slots p f = omega (arith, formed-holds n p f .room)
 
-  pub called-words : (p : State ℕ ℕ) (c : Call ℕ) → Formed n p → call-tables (words n p) c ≡ wrote n (step p c)
+  pub called-words : (p : State ℕ Tally) (c : Call Tally) → Formed n p → call-tables (words n p) c ≡ wrote n (step p c)
   unfolding call-tables
   called-words p c f = rw (words-sound n p f, written-reads n p f, words-slots p f)
 
   -- So for every list.
-  pub run-words : (p : State ℕ ℕ) (cs : List (Call ℕ)) → Formed n p → run-tables (words n p) cs ≡ words n (run p cs)
+  pub run-words : (p : State ℕ Tally) (cs : List (Call Tally)) → Formed n p → run-tables (words n p) cs ≡ words n (run p cs)
   unfolding run-tables run
   run-words p [] f = refl
   run-words p (c ∷ cs) f = rw (called-words p c f) (run-words (step p c .state) cs (step-formed n p c f))
 
-  pub answers-words : (p : State ℕ ℕ) (cs : List (Call ℕ)) → Formed n p → answers-tables (words n p) cs ≡ answers p cs
+  pub answers-words : (p : State ℕ Tally) (cs : List (Call Tally)) → Formed n p → answers-tables (words n p) cs ≡ answers p cs
   unfolding answers-tables answers
   answers-words p [] f = refl
   answers-words p (c ∷ cs) f = rw (called-words p c f, answers-words (step p c .state) cs (step-formed n p c f))
@@ -44,17 +45,17 @@ module _ (n : ℕ) where
 pub rewritten : (w : Tables) → Fits32 (w .entries) → table-refusal (w .entries) (w .levels) ≡ 0
     → words (slots-of (w .entries)) (read-state (w .entries) (w .levels)) ≡ w
 rewritten w fits h =
-    let p : State ℕ ℕ = read-state (w .entries) (w .levels) in
+    let p : State ℕ Tally = read-state (w .entries) (w .levels) in
     let f = sound-words (w .entries) (w .levels) fits h in
     ap (λ (e : List ℕ). lent e (level-words p)) (sym (f .entries)) ∙ ap (lent (w .entries)) (sym (f .levels))
 
 -- Calls on sound tables are the steps of what they read as.
 module _ (w : Tables) (sound : table-refusal (w .entries) (w .levels) ≡ 0) where
-  pub called-sound : (c : Call ℕ) → call-tables w c ≡ wrote (slots-of (w .entries)) (step (read-state (w .entries) (w .levels)) c)
+  pub called-sound : (c : Call Tally) → call-tables w c ≡ wrote (slots-of (w .entries)) (step (read-state (w .entries) (w .levels)) c)
   unfolding call-tables
   called-sound c = rw sound
 
-  module _ (fits : Fits32 (w .entries)) (cs : List (Call ℕ)) where
+  module _ (fits : Fits32 (w .entries)) (cs : List (Call Tally)) where
     pub run-sound : run-tables w cs ≡ words (slots-of (w .entries)) (run (read-state (w .entries) (w .levels)) cs)
     run-sound =
         ap (λ (x : Tables). run-tables x cs) (sym (rewritten w fits sound))
@@ -67,16 +68,16 @@ module _ (w : Tables) (sound : table-refusal (w .entries) (w .levels) ≡ 0) whe
 
 -- Tables that are not sound stay as they are, and every call on them meets the same refusal.
 module _ (w : Tables) (unsound : eqb (table-refusal (w .entries) (w .levels)) 0 ≡ false) where
-  called-unsound : (c : Call ℕ) → call-tables w c ≡ record { tables = w; answer = refusing (table-refusal (w .entries) (w .levels)) }
+  called-unsound : (c : Call Tally) → call-tables w c ≡ record { tables = w; answer = refusing (table-refusal (w .entries) (w .levels)) }
   unfolding call-tables
   called-unsound c = rw unsound
 
-  pub run-unsound : (cs : List (Call ℕ)) → run-tables w cs ≡ w
+  pub run-unsound : (cs : List (Call Tally)) → run-tables w cs ≡ w
   unfolding run-tables
   run-unsound [] = refl
   run-unsound (c ∷ cs) = ap (λ (r : Called). run-tables (r .tables) cs) (called-unsound c) ∙ run-unsound cs
 
-  pub answers-unsound : (cs : List (Call ℕ)) → answers-tables w cs ≡ map (λ (c : Call ℕ). refusing (table-refusal (w .entries) (w .levels))) cs
+  pub answers-unsound : (cs : List (Call Tally)) → answers-tables w cs ≡ map (λ (c : Call Tally). refusing (table-refusal (w .entries) (w .levels))) cs
   unfolding answers-tables
   answers-unsound [] = refl
   answers-unsound (c ∷ cs) =
@@ -84,8 +85,8 @@ module _ (w : Tables) (unsound : eqb (table-refusal (w .entries) (w .levels)) 0 
       ∙ ap (_∷_ (refusing (table-refusal (w .entries) (w .levels)))) (answers-unsound cs)
 
 -- "Tables … are unchanged, save under 7", for tables of any content.
-module _ (w : Tables) (fits : Fits32 (w .entries)) (c : Call ℕ) where
-  abbrev p : State ℕ ℕ
+module _ (w : Tables) (fits : Fits32 (w .entries)) (c : Call Tally) where
+  abbrev p : State ℕ Tally
   p = read-state (w .entries) (w .levels)
 
   abbrev t : ℕ

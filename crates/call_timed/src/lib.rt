@@ -2,6 +2,7 @@
 use call_any::call;
 use call_end::Answer;
 use call_op::Op;
+use model::Tally;
 ghost use mathlib.Core.Path.{_≡_};
 ghost use Rattle.model.specs.Steps.{put, delete, delete-range};
 ghost use Rattle.model.specs.Calls.{flush, tick, written};
@@ -9,7 +10,7 @@ ghost use Rattle.call_tables.specs.Calls.{lent, call-tables};
 ghost use Rattle.call_end.specs.Coded.{called};
 
 // Puts a docket's tally.
-pub fn put(entries: &mut [u32], levels: &mut [u32], clock: u32, docket: u32, tally: u32) -> Answer
+pub fn put(entries: &mut [u32], levels: &mut [u32], clock: u32, docket: u32, tally: Tally) -> Answer
     ensures { λ r. ⌜ called (now (entries .exit)) (now (levels .exit)) r ≡ call-tables (lent (now (entries .entry)) (now (levels .entry))) (record { clock = clock; op = written (put docket tally) }) ⌝ }
 {
     call(entries, levels, clock, Op::Put(docket, tally))

@@ -4,7 +4,7 @@ use mathlib.Core.List.{List, [], _∷_, _++_, map, append-assoc}
 use Prim.Native.Nat.{ℕ}
 use native.Mathlib.Omega.{arith}
 use lib.ListN.{length}
-use Rattle.tables.specs.Slots.{slot-at, with-value}
+use Rattle.tables.specs.Slots.{slot-at, with-date as slot-dated}
 use Rattle.tables.specs.Placed.{Cell, free-cell, head, cell-slot}
 use Rattle.tables.proofs.Cells.{AllChained, times-head, cell-slots}
 use Rattle.tables.proofs.Reading.{head-small}
@@ -91,7 +91,7 @@ module _ (n clock : ℕ) (free : List ℕ) where
       rewritten a done c (with-date date stamp c) cs others e (stamped e (c .slot) date stamp) h refl (length-stamped e (c .slot) date stamp)
       (λ u ne nz. stamped-other e (c .slot) date stamp u ne)
       (stamped-other e (c .slot) date stamp 0 (omega (arith, here .each .1 .0 .0)))
-      (stamped-same e (c .slot) date stamp (omega (arith, here .room, here .each .1 .0 .1)) ∙ ap (with-value date stamp) (here .each .1 .0 .2))
+      (stamped-same e (c .slot) date stamp (omega (arith, here .room, here .each .1 .0 .1)) ∙ ap (slot-dated date stamp) (here .each .1 .0 .2))
 
 -- The first free slot filled: a chain of that one cell.
 pub taken : (n clock x : ℕ) (free : List ℕ) (c : Cell) (chains : List (List Cell)) (e e′ : List ℕ) → Held n clock (x ∷ free) chains e → c .slot ≡ x

@@ -30,10 +30,10 @@ cell-before c d = ltb (cell-key c) (cell-key d)
 
 -- Word 2 of a range's cell, and the cell with another date and stamp.
 abbrev pub cell-date : Cell → ℕ
-cell-date c = c .tally
+cell-date c = c .tally .count
 
 abbrev pub with-date : ℕ → ℕ → Cell → Cell
-with-date date stamp c = record { slot = c .slot; kind = c .kind; span = c .span; tally = date; stamp = stamp }
+with-date date stamp c = record { slot = c .slot; kind = c .kind; span = c .span; tally = record { count = date; price = c .tally .price }; stamp = stamp }
 
 -- A range's cell covers a record of docket k with stamp t; some cell of ranges does; some cell of points has the docket.
 abbrev pub cell-covers : Cell → ℕ → ℕ → Bool

@@ -5,7 +5,7 @@ use mathlib.Core.List.{List}
 use Prim.Native.Nat.{ℕ}
 use native.Mathlib.Omega.{arith}
 use lib.ListN.{length}
-use Rattle.tables.specs.Slots.{InTable, slot-at, link-to, kind-of, free-slot, first-free, with-link, with-value}
+use Rattle.tables.specs.Slots.{InTable, slot-at, link-to, kind-of, free-slot, first-free, with-link, with-date}
 use Rattle.tables.proofs.Slots.{length-set-slot, slot-other, slot-same}
 use Rattle.chain_links.specs.Links.{linked, released, stamped}
 
@@ -50,6 +50,6 @@ module _ (e : List ℕ) (s date stamp : ℕ) where
   unfolding stamped
   stamped-other u ne = slot-other e s _ u (λ q. ne (sym q))
 
-  pub stamped-same : InTable e s → slot-at (stamped e s date stamp) s ≡ with-value date stamp (slot-at e s)
+  pub stamped-same : InTable e s → slot-at (stamped e s date stamp) s ≡ with-date date stamp (slot-at e s)
   unfolding stamped
   stamped-same h = slot-same e s _ h

@@ -2,10 +2,10 @@
 use table_slots::date_of;
 use table_slots::first_free;
 use table_slots::kind_of;
+use table_slots::set_date;
 use table_slots::set_first_free;
 use table_slots::set_free;
 use table_slots::set_link;
-use table_slots::set_value;
 use table_slots::stamp_of;
 ghost use mathlib.Core.Path.{_≡_};
 ghost use Prim.Native.Nat.{_<_, max};
@@ -20,7 +20,7 @@ pub fn take_later(e: &mut [u32], slot: usize, other: usize)
 {
     let date = later(date_of(e, slot), date_of(e, other));
     let stamp = later(stamp_of(e, slot), stamp_of(e, other));
-    set_value(e, slot, date, stamp);
+    set_date(e, slot, date, stamp);
 }
 
 fn later(a: u32, b: u32) -> u32

@@ -5,11 +5,12 @@ use table_slots::PUT;
 use table_slots::RANGE;
 use table_slots::date_of;
 use table_slots::hi_of;
+use table_slots::is_untallied;
 use table_slots::kind_of;
 use table_slots::lo_of;
+use table_slots::price_of;
 use table_slots::span_of;
 use table_slots::stamp_of;
-use table_slots::tally_of;
 ghost use mathlib.Core.Path.{_≡_};
 ghost use Rattle.tables.specs.Slots.{InTable};
 ghost use Rattle.tables.specs.Sound.{is-free, is-point, is-range};
@@ -25,7 +26,7 @@ pub fn is_free(e: &[u32], s: usize) -> bool
     if span_of(e, s) != 0 {
         return false;
     }
-    if tally_of(e, s) != 0 {
+    if !is_untallied(e, s) {
         return false;
     }
     stamp_of(e, s) == 0
@@ -40,17 +41,16 @@ pub fn is_point(e: &[u32], s: usize) -> bool
         return false;
     }
     let kind = kind_of(e, s);
-    let tally = tally_of(e, s);
     if kind == PUT {
         return true;
     }
     if kind != DELETE {
         return false;
     }
-    tally == 0
+    is_untallied(e, s)
 }
 
-// A range delete with a date from 1 to its stamp.
+// A range delete with a date from 1 to its stamp, and without a price.
 pub fn is_range(e: &[u32], s: usize) -> bool
     requires { ⌜ InTable (now e) s ⌝ }
     ensures { λ r. ⌜ r ≡ is-range (now (e .entry)) s ⌝ }
@@ -65,5 +65,8 @@ pub fn is_range(e: &[u32], s: usize) -> bool
     if date < 1 {
         return false;
     }
-    date <= stamp_of(e, s)
+    if stamp_of(e, s) < date {
+        return false;
+    }
+    price_of(e, s) == 0
 }

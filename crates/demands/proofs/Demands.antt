@@ -7,6 +7,7 @@ use Prim.Native.Nat.{ℕ, _+_, _<_, _≤_}
 use lib.ListN.{length, getD, take}
 use Rattle.settings.specs.declared.Settings.{Settings}
 use Rattle.settings.specs.Limits.{allowed}
+use Rattle.model.specs.declared.Tally.{Tally}
 use Rattle.model.specs.Records.{slotless}
 use Rattle.model.specs.Steps.{put, delete, delete-range}
 use Rattle.model.specs.Lookup.{scan}
@@ -18,18 +19,23 @@ use Rattle.tables.specs.Words.{Fits32}
 use Rattle.tables.specs.Slots.{clock-of}
 use Rattle.tables.specs.Rows.{settings-of, level-row, no-row}
 use Rattle.tables.specs.Sound.{table-refusal}
+use Rattle.check_refusal.specs.Dockets.{docket-refusal}
 use Rattle.lookup.specs.declared.Answer.the-variants.{Found}
 use Rattle.lookup.specs.Lookup.{answered, lookup-tables, numbers}
+use Rattle.lookup.specs.Counts.{lookup-counts, without-price, count-numbers}
 use Rattle.lookup.proofs.Numbers as lookups
+use Rattle.lookup.proofs.Counts as counts
 use Rattle.scan.specs.declared.Row.{Row}
-use Rattle.check_refusal.specs.Dockets.{docket-refusal}
-use Rattle.scan.specs.Scan.{unfilled, filled, scan-tables}
+use Rattle.scan.specs.declared.CountRow.{CountRow}
+use Rattle.scan.specs.Scan.{unfilled, filled, written as row-of, scan-tables, scan-counts-tables}
 use Rattle.scan.proofs.Words as scans
 use Rattle.call_tables.specs.Calls.{Tables, call-tables, run-tables, tables-after, answers-tables, made-tables, refusal-number, merged-tables}
 use Rattle.demands.specs.Full.{SlotsLive}
 use Rattle.demands.specs.LastPut.{LastPut}
 use Rattle.demands.specs.Events.{Event, Reply, reply, run-events, replies, calls-of, answers-of}
-use Rattle.demands.specs.Numbers.{records-of, Settled, untallied, SameButTallies}
+use Rattle.demands.specs.Numbers.{records-of, Settled}
+use Rattle.demands.specs.Hidden.{tally-word, price-word, SameBut, without, FreePriced}
+use Rattle.demands.specs.Grower.{row-without-price, rows-without-prices}
 use Rattle.call_tables.proofs.Runs as runs
 use Rattle.call_tables.proofs.Refusals as refusals
 use Rattle.demands.proofs.Full as full
@@ -38,10 +44,12 @@ use Rattle.demands.proofs.Made as made
 use Rattle.demands.proofs.LastPuts as puts
 use Rattle.demands.proofs.Events as events
 use Rattle.demands.proofs.Numbers as accepted
-use Rattle.demands.proofs.Tallies as tallies
+use Rattle.demands.proofs.SameTables.{tallies-only, prices-only}
+use Rattle.demands.proofs.Hidden as hidden
+use Rattle.demands.proofs.Grower as grower
 
 -- DEMAND 1, for tables of any content. Each timed call is refused in exactly the listed cases, and a refusal "gives its number and zeros".
-module _ (w : Tables) (c : Call ℕ) where
+module _ (w : Tables) (c : Call Tally) where
   pub refused-exactly : call-tables w c .answer .refusal ≡ refusal-number w c
   refused-exactly = refusals.refused-exactly w c
 
@@ -74,6 +82,16 @@ module _ (w : Tables) (c : Call ℕ) where
       → scan-tables (call-tables w c .tables .entries) (call-tables w c .tables .levels) lo hi rows ≡ scan-tables (w .entries) (w .levels) lo hi rows
   refused-7-scans = merged.refused-7-scans w c
 
+  -- The grower's too.
+  pub refused-7-lookup-counts : Fits32 (w .entries) → call-tables w c .answer .refusal ≡ 7 → (k : ℕ)
+      → lookup-counts (call-tables w c .tables .entries) (call-tables w c .tables .levels) k ≡ lookup-counts (w .entries) (w .levels) k
+  refused-7-lookup-counts = merged.refused-7-lookup-counts w c
+
+  pub refused-7-scan-counts : Fits32 (w .entries) → call-tables w c .answer .refusal ≡ 7 → (lo hi : ℕ) (rows : List CountRow)
+      → scan-counts-tables (call-tables w c .tables .entries) (call-tables w c .tables .levels) lo hi rows
+      ≡ scan-counts-tables (w .entries) (w .levels) lo hi rows
+  refused-7-scan-counts = merged.refused-7-scan-counts w c
+
   -- Sound tables stay sound.
   pub stays-sound : Fits32 (w .entries) → table-refusal (w .entries) (w .levels) ≡ 0
       → table-refusal (call-tables w c .tables .entries) (call-tables w c .tables .levels) ≡ 0
@@ -81,7 +99,8 @@ module _ (w : Tables) (c : Call ℕ) where
 
 module _ (w : Tables) where
   -- 'Full' comes only when every slot holds a different live docket and the put's is not among them, and then always.
-  pub full-exactly : Fits32 (w .entries) → table-refusal (w .entries) (w .levels) ≡ 0 → (t k a : ℕ) → k ≤ 65535 → bad-clock t (clock-of (w .entries)) ≡ false
+  pub full-exactly : Fits32 (w .entries) → table-refusal (w .entries) (w .levels) ≡ 0 → (t k : ℕ) (a : Tally) → k ≤ 65535
+      → bad-clock t (clock-of (w .entries)) ≡ false
       → (call-tables w (record { clock = t; op = written (put k a) }) .answer .refusal ≡ 7) ↔ SlotsLive k w
   full-exactly = full.full-exactly w
 
@@ -98,8 +117,19 @@ module _ (e l : List ℕ) (k : ℕ) where
   lookup-refused-exactly = lookups.refused-exactly e l k
 
   pub lookup-refused-zeros : docket-refusal e l k k ≢ 0
-      → numbers (lookup-tables e l k) ≡ record { refusal = docket-refusal e l k k; found = 0; tally = 0; stamp = 0 }
+      → numbers (lookup-tables e l k) ≡ record { refusal = docket-refusal e l k k; found = 0; count = 0; price = 0; stamp = 0 }
   lookup-refused-zeros = lookups.refused-zeros e l k
+
+  -- So is the grower's, which answers as the hall's with the price left out.
+  pub lookup-counts-refused-exactly : count-numbers (lookup-counts e l k) .refusal ≡ docket-refusal e l k k
+  lookup-counts-refused-exactly = grower.lookup-refused-exactly e l k
+
+  pub lookup-counts-refused-zeros : docket-refusal e l k k ≢ 0
+      → count-numbers (lookup-counts e l k) ≡ record { refusal = docket-refusal e l k k; found = 0; count = 0; stamp = 0 }
+  lookup-counts-refused-zeros = grower.lookup-refused-zeros e l k
+
+  pub lookup-counts-without-price : lookup-counts e l k ≡ without-price (lookup-tables e l k)
+  lookup-counts-without-price = counts.counts-without-prices e l k
 
 -- A scan is refused in exactly the listed cases, and then leaves every row.
 module _ (e l : List ℕ) (lo hi : ℕ) (rows : List Row) where
@@ -108,6 +138,17 @@ module _ (e l : List ℕ) (lo hi : ℕ) (rows : List Row) where
 
   pub scan-refused-leaves : docket-refusal e l lo hi ≢ 0 → scan-tables e l lo hi rows ≡ unfilled (docket-refusal e l lo hi) rows
   scan-refused-leaves = scans.refused-leaves e l lo hi rows
+
+  -- The grower's leaves what the hall's does with the prices left out.
+  pub scan-counts-without-prices : scan-counts-tables e l lo hi (map row-without-price rows) ≡ rows-without-prices (scan-tables e l lo hi rows)
+  scan-counts-without-prices = grower.scan-without-prices e l lo hi rows
+
+module _ (e l : List ℕ) (lo hi : ℕ) (rows : List CountRow) where
+  pub scan-counts-refused-exactly : scan-counts-tables e l lo hi rows .answer .refusal ≡ docket-refusal e l lo hi
+  scan-counts-refused-exactly = scans.counts-refused-exactly e l lo hi rows
+
+  pub scan-counts-refused-leaves : docket-refusal e l lo hi ≢ 0 → scan-counts-tables e l lo hi rows ≡ unfilled (docket-refusal e l lo hi) rows
+  scan-counts-refused-leaves = scans.counts-refused-leaves e l lo hi rows
 
 -- Lookups and scans "may stand anywhere between": on tables of any content, words and answers of the timed calls are those of the list without them.
 module _ (w : Tables) (es : List Event) where
@@ -122,7 +163,7 @@ module _ (w : Tables) (es : List Event) where
   events-reply = events.reply-there w es
 
 -- DEMAND 2, where a call is accepted, on any tables: "purged = held before + written − held after", by the numbers of records in the level rows.
-module _ (w : Tables) (c : Call ℕ) where
+module _ (w : Tables) (c : Call Tally) where
   pub purged-adds-up : Fits32 (w .entries) → call-tables w c .answer .refusal ≡ 0
       → call-tables w c .answer .purged + records-of (call-tables w c .tables .levels) ≡ records-of (w .levels) + count-written (c .op)
   purged-adds-up = accepted.purged-adds-up w c
@@ -133,70 +174,113 @@ module _ (w : Tables) (c : Call ℕ) where
   accepted-settles = accepted.accepted-settles w c
 
 -- "which slot a record occupies, and with it the order of the free chain; neither may hang on a tally", and no other word or answer does: from tables of any
--- content that differ in the tallies of puts alone, lists that differ in tallies alone leave tables that do.
-module _ (w v : Tables) (fits : Fits32 (w .entries)) (fits′ : Fits32 (v .entries)) (same : SameButTallies w v)
-    (cs ds : List (Call ℕ)) (alike : map untallied cs ≡ map untallied ds) where
-  pub words-blind : SameButTallies (run-tables w cs) (run-tables v ds)
-  words-blind = tallies.words-blind w v fits fits′ same cs ds alike
+-- content that differ in the tallies of puts alone, count and price, lists that differ in tallies alone leave tables that do.
+module _ (w v : Tables) (fits : Fits32 (w .entries)) (fits′ : Fits32 (v .entries)) (same : SameBut tally-word w v)
+    (cs ds : List (Call Tally)) (alike : map (without tally-word) cs ≡ map (without tally-word) ds) where
+  pub words-blind : SameBut tally-word (run-tables w cs) (run-tables v ds)
+  words-blind = hidden.words-blind tally-word tallies-only w v fits fits′ same cs ds alike
 
   pub answers-blind : answers-tables w cs ≡ answers-tables v ds
-  answers-blind = tallies.answers-blind w v fits fits′ same cs ds alike
+  answers-blind = hidden.answers-blind tally-word tallies-only w v fits fits′ same cs ds alike
+
+-- THE GROWER'S CLAIM: "Two stores that differ only in the prices of puts must give the grower the same answers, refusals and counts." From tables of any
+-- content that are the same but for the price words of puts, lists of calls that differ in prices alone leave tables that are; every call has the same refusal,
+-- merges and purged; and after them every lookup and every scan of the grower gives the same.
+module _ (w v : Tables) (fits : Fits32 (w .entries)) (fits′ : Fits32 (v .entries)) (same : SameBut price-word w v)
+    (cs ds : List (Call Tally)) (alike : map (without price-word) cs ≡ map (without price-word) ds) where
+  pub grower-words : SameBut price-word (run-tables w cs) (run-tables v ds)
+  grower-words = hidden.words-blind price-word prices-only w v fits fits′ same cs ds alike
+
+  pub grower-answers : answers-tables w cs ≡ answers-tables v ds
+  grower-answers = hidden.answers-blind price-word prices-only w v fits fits′ same cs ds alike
+
+  pub grower-lookups : (k : ℕ)
+      → lookup-counts (run-tables w cs .entries) (run-tables w cs .levels) k ≡ lookup-counts (run-tables v ds .entries) (run-tables v ds .levels) k
+  grower-lookups = grower.lookups-same (run-tables w cs) (run-tables v ds) grower-words
+
+  pub grower-scans : (lo hi : ℕ) (rows : List CountRow)
+      → scan-counts-tables (run-tables w cs .entries) (run-tables w cs .levels) lo hi rows
+      ≡ scan-counts-tables (run-tables v ds .entries) (run-tables v ds .levels) lo hi rows
+  grower-scans = grower.scans-same (run-tables w cs) (run-tables v ds) grower-words
+
+-- Word 4 of a slot that is no put is no price: tables with a number there are refused 3, and a claim that hid it would be false.
+pub free-priced : FreePriced
+free-priced = grower.free-priced
 
 -- From what an accepted making left, after every list of timed calls.
 module _ (n : ℕ) (s : Settings) (low : 1 ≤ n) (high : n ≤ 65535) (ok : allowed s ≡ true) where
   -- DEMAND 1: no call is ever refused 1, 2 or 3.
-  pub always-sound : (cs : List (Call ℕ)) → table-refusal (tables-after n s cs .entries) (tables-after n s cs .levels) ≡ 0
+  pub always-sound : (cs : List (Call Tally)) → table-refusal (tables-after n s cs .entries) (tables-after n s cs .levels) ≡ 0
   always-sound = made.always-sound n s low high ok
 
   -- L, T, B and D are "fixed when a store is made".
-  pub settings-stay : (cs : List (Call ℕ)) → settings-of (tables-after n s cs .levels) ≡ s
+  pub settings-stay : (cs : List (Call Tally)) → settings-of (tables-after n s cs .levels) ≡ s
   settings-stay = made.settings-stay n s low high ok
 
   -- 'Full' comes as on every pair of sound tables.
-  pub full-after : (cs : List (Call ℕ)) (t k a : ℕ) → k ≤ 65535 → bad-clock t (clock-of (tables-after n s cs .entries)) ≡ false
+  pub full-after : (cs : List (Call Tally)) (t k : ℕ) (a : Tally) → k ≤ 65535 → bad-clock t (clock-of (tables-after n s cs .entries)) ≡ false
       → (call-tables (tables-after n s cs) (record { clock = t; op = written (put k a) }) .answer .refusal ≡ 7) ↔ SlotsLive k (tables-after n s cs)
   full-after = made.full-after n s low high ok
 
   -- A delete of all dockets is accepted at every clock that is not refused: without a date, which "has its own clock as s", and with any from 1 to the clock.
-  pub widest-accepted : (cs : List (Call ℕ)) (t : ℕ) → bad-clock t (clock-of (tables-after n s cs .entries)) ≡ false
+  pub widest-accepted : (cs : List (Call Tally)) (t : ℕ) → bad-clock t (clock-of (tables-after n s cs .entries)) ≡ false
       → call-tables (tables-after n s cs) (record { clock = t; op = written (delete-range 0 65535 t) }) .answer .refusal ≡ 0
   widest-accepted = made.widest-accepted n s low high ok
 
-  pub widest-dated-accepted : (cs : List (Call ℕ)) (t date : ℕ) → bad-clock t (clock-of (tables-after n s cs .entries)) ≡ false → 1 ≤ date → date ≤ t
+  pub widest-dated-accepted : (cs : List (Call Tally)) (t date : ℕ) → bad-clock t (clock-of (tables-after n s cs .entries)) ≡ false → 1 ≤ date → date ≤ t
       → call-tables (tables-after n s cs) (record { clock = t; op = written (delete-range 0 65535 date) }) .answer .refusal ≡ 0
   widest-dated-accepted = made.widest-dated-accepted n s low high ok
 
   -- DEMAND 2: a lookup finds tally a with stamp t exactly when some call of the list was a put of that docket with a at t, answered 0, and no later call that was
   -- answered 0 puts the docket or covers that put: a delete of the docket, or a range delete over it with t at most its date.
-  pub found-exactly : (cs : List (Call ℕ)) (k a t : ℕ)
+  pub found-exactly : (cs : List (Call Tally)) (k : ℕ) (a : Tally) (t : ℕ)
       → (lookup-tables (tables-after n s cs .entries) (tables-after n s cs .levels) k ≡ Found a t)
       ↔ LastPut (map (λ (r : Answer). r .refusal) (answers-tables (made-tables n s) cs)) cs k a t
   found-exactly = puts.found-exactly n s low high ok
 
   -- So lookups answer as the plain map after the same list.
-  pub lookups-as-map : (cs : List (Call ℕ)) (k : ℕ) → k ≤ 65535
+  pub lookups-as-map : (cs : List (Call Tally)) (k : ℕ) → k ≤ 65535
       → lookup-tables (tables-after n s cs .entries) (tables-after n s cs .levels) k ≡ answered (get (map-run n no-rows cs .rows) k)
   lookups-as-map = made.lookups-as-map n s low high ok
 
   -- So do scans: count, 'more', the next docket and every row.
-  pub scans-as-map : (cs : List (Call ℕ)) (lo hi : ℕ) (rows : List Row) → lo ≤ hi → hi ≤ 65535
+  pub scans-as-map : (cs : List (Call Tally)) (lo hi : ℕ) (rows : List Row) → lo ≤ hi → hi ≤ 65535
       → scan-tables (tables-after n s cs .entries) (tables-after n s cs .levels) lo hi rows
-      ≡ filled (scan (get (map-run n no-rows cs .rows)) lo hi (length rows)) rows
+      ≡ filled row-of (scan (get (map-run n no-rows cs .rows)) lo hi (length rows)) rows
   scans-as-map = made.scans-as-map n s low high ok
 
   -- Calls are refused as by a map of as many places; merges and purged are those of document 01's steps.
-  pub refusals-as-map : (cs : List (Call ℕ)) → map (λ (r : Answer). r .refusal) (answers-tables (made-tables n s) cs) ≡ map-refusals n no-rows cs
+  pub refusals-as-map : (cs : List (Call Tally)) → map (λ (r : Answer). r .refusal) (answers-tables (made-tables n s) cs) ≡ map-refusals n no-rows cs
   refusals-as-map = made.refusals-as-map n s low high ok
 
-  pub answers-as-steps : (cs : List (Call ℕ)) → answers-tables (made-tables n s) cs ≡ answers (slotless n s) cs
+  pub answers-as-steps : (cs : List (Call Tally)) → answers-tables (made-tables n s) cs ≡ answers (slotless n s) cs
   answers-as-steps = made.answers-as-steps n s low high ok
 
   -- What a level owes: "the earliest clock of any delete that came into the level, itself or through merges, since the level was last emptied; 0 if none".
-  pub owed-is-earliest : (cs : List (Call ℕ)) (i : ℕ) → i < s .deepest
+  pub owed-is-earliest : (cs : List (Call Tally)) (i : ℕ) → i < s .deepest
       → level-row (tables-after n s cs .levels) i .owed ≡ earliest (came (history (slotless n s) cs) i)
   owed-is-earliest = made.owed-is-earliest n s low high ok
 
-  -- DEMAND 3: had that put carried any other tally, every word of both tables would be the same. Settings and list alone decide the premises.
-  pub erased-leaves-nothing : (cs : List (Call ℕ)) (i j k a v : ℕ) → Erased (slotless n s) cs i j k a
+  -- DEMAND 3: had that put carried any other tally, another count, another price or both, every word of both tables would be the same. Settings and list alone
+  -- decide the premises.
+  pub erased-leaves-nothing : (cs : List (Call Tally)) (i j k : ℕ) (a v : Tally) → Erased (slotless n s) cs i j k a
       → tables-after n s (retally i k v cs) ≡ tables-after n s cs
   erased-leaves-nothing = made.erased n s low high ok
+
+  -- THE GROWER'S CLAIM from a fresh store: after two lists that differ only in the prices of puts.
+  module _ (cs ds : List (Call Tally)) (alike : map (without price-word) cs ≡ map (without price-word) ds) where
+    pub grower-words-after : SameBut price-word (tables-after n s cs) (tables-after n s ds)
+    grower-words-after = made.words-blind n s low high ok price-word cs ds alike
+
+    pub grower-answers-after : answers-tables (made-tables n s) cs ≡ answers-tables (made-tables n s) ds
+    grower-answers-after = made.answers-blind n s low high ok price-word cs ds alike
+
+    pub grower-lookups-after : (k : ℕ)
+        → lookup-counts (tables-after n s cs .entries) (tables-after n s cs .levels) k
+        ≡ lookup-counts (tables-after n s ds .entries) (tables-after n s ds .levels) k
+    grower-lookups-after = grower.lookups-same (tables-after n s cs) (tables-after n s ds) grower-words-after
+
+    pub grower-scans-after : (lo hi : ℕ) (rows : List CountRow)
+        → scan-counts-tables (tables-after n s cs .entries) (tables-after n s cs .levels) lo hi rows
+        ≡ scan-counts-tables (tables-after n s ds .entries) (tables-after n s ds .levels) lo hi rows
+    grower-scans-after = grower.scans-same (tables-after n s cs) (tables-after n s ds) grower-words-after

@@ -15,6 +15,7 @@ use Rattle.lists.proofs.Bools.{by-cases, eqb-sym}
 use Rattle.lists.proofs.Tests.{all-weaken, any-map, any-same}
 use Rattle.lists.proofs.Counts.{count-map, none-counted}
 use Rattle.lists.proofs.Counting.{Distinct, pigeonhole}
+use Rattle.model.specs.declared.Tally.{Tally}
 use Rattle.model.specs.Records.{Point, State, is-put}
 use Rattle.model.specs.Merge.{names, point-slots}
 use Rattle.model.specs.Steps.{put, no-slot}
@@ -31,7 +32,7 @@ use Rattle.tables.specs.Words.{Fits32}
 use Rattle.tables.specs.Slots.{Slot, slots-of, kind-of, lo-of, stamp-of, clock-of}
 use Rattle.tables.specs.Rows.{settings-of}
 use Rattle.tables.specs.Sound.{free-chain, point-chain, range-chain, is-range, table-refusal}
-use Rattle.tables.specs.Placed.{read-point, read-range, read-levels, read-state}
+use Rattle.tables.specs.Placed.{read-point, read-range, read-levels, read-state, levels-as, state-as}
 use Rattle.tables.specs.Formed.{levels-slots, Formed}
 use Rattle.tables.proofs.Cells.{times, times-head}
 use Rattle.tables.proofs.Once.{Inside, OnceFacts, once-facts, once-inside, once-most}
@@ -55,7 +56,7 @@ finds (Refused n) = false
 finds Absent = false
 finds (Found tally stamp) = true
 
-found-is : (f : model.Found ℕ) → finds (answered f) ≡ model.is-found f
+found-is : (f : model.Found Tally) → finds (answered f) ≡ model.is-found f
 unfolding finds
 found-is model.absent = refl
 found-is (model.found a t) = refl
@@ -67,10 +68,10 @@ module _ (w : Tables) (sound : table-refusal (w .entries) (w .levels) ≡ 0) (fo
   abbrev n : ℕ
   n = slots-of (w .entries)
 
-  abbrev p : State ℕ ℕ
+  abbrev p : State ℕ Tally
   p = read-state (w .entries) (w .levels)
 
-  abbrev points : List (Point ℕ ℕ)
+  abbrev points : List (Point ℕ Tally)
   points = all-points (p .levels)
 
   abbrev ss : List ℕ
@@ -84,11 +85,11 @@ module _ (w : Tables) (sound : table-refusal (w .entries) (w .levels) ≡ 0) (fo
   lo-small s = omega arith
 
   own : map (read-point e) ss ≡ points
-  unfolding read-state
+  unfolding state-as
   own = own-back e points (own-levels e (w .levels) (suc (settings-of (w .levels) .deepest)) 0)
 
-  keys-counted : (k : ℕ) → count (λ (x : Point ℕ ℕ). eqb (x .key) k) points ≡ count (λ s. eqb (lo-of e s) k) ss
-  keys-counted k = ap (count (λ (x : Point ℕ ℕ). eqb (x .key) k)) (sym own) ∙ count-map (read-point e) (λ (x : Point ℕ ℕ). eqb (x .key) k) ss
+  keys-counted : (k : ℕ) → count (λ (x : Point ℕ Tally). eqb (x .key) k) points ≡ count (λ s. eqb (lo-of e s) k) ss
+  keys-counted k = ap (count (λ (x : Point ℕ Tally). eqb (x .key) k)) (sym own) ∙ count-map (read-point e) (λ (x : Point ℕ Tally). eqb (x .key) k) ss
 
   form : Whole n p
   form = whole n p formed
@@ -96,7 +97,7 @@ module _ (w : Tables) (sound : table-refusal (w .entries) (w .levels) ≡ 0) (fo
   stamps : All (Stamped (p .clock)) (p .levels)
   stamps = all-weaken _ _ (λ l f. f .point-stamps) (p .levels) (formed .levels-ok)
 
-  stamps-of : (rs : List ℕ) → All (λ (x : Point ℕ ℕ). (1 ≤ x .stamp) × (x .stamp ≤ p .clock)) (map (read-point e) rs) → All (λ s. 1 ≤ stamp-of e s) rs
+  stamps-of : (rs : List ℕ) → All (λ (x : Point ℕ Tally). (1 ≤ x .stamp) × (x .stamp ≤ p .clock)) (map (read-point e) rs) → All (λ s. 1 ≤ stamp-of e s) rs
   stamps-of [] a = tt
   stamps-of (s ∷ rs) a = (a .0 .0, stamps-of rs (a .1))
 
@@ -117,7 +118,7 @@ module _ (w : Tables) (sound : table-refusal (w .entries) (w .levels) ≡ 0) (fo
     slots-inside = once-inside n ss once
 
   -- Refused 7: every slot holds a different live docket.
-  module _ (t k a : ℕ) (full : no-slot t (put k a) p ≡ true) where
+  module _ (t k : ℕ) (a : Tally) (full : no-slot t (put k a) p ≡ true) where
     puts : All PutsOnly (p .levels)
     puts = full-puts n p form t k a full
 
@@ -168,7 +169,7 @@ module _ (w : Tables) (sound : table-refusal (w .entries) (w .levels) ≡ 0) (fo
     no-chain (s ∷ rs) i a = absurd (a .0 (live .every s (i .0) .is-put))
 
     none-free : p .free ≡ []
-    unfolding read-state
+    unfolding state-as
     none-free =
         no-chain (free-chain e) (free-ends e (w .levels) facts .inside)
         (all-weaken _ _ (λ s g q. omega (arith, ap (λ (r : Slot). r .link) g, q)) (free-chain e) (free-slots-blank e (w .levels) sound))
@@ -186,7 +187,7 @@ module _ (w : Tables) (sound : table-refusal (w .entries) (w .levels) ≡ 0) (fo
     chain-puts (s ∷ rs) i = (kind-put e s (live .every s (i .0) .is-put), chain-puts rs (i .1))
 
     levels-puts : (j i : ℕ) → i + j ≤ suc (settings-of (w .levels) .deepest) → All PutsOnly (read-levels e (w .levels) j i)
-    unfolding read-levels
+    unfolding levels-as
     levels-puts zero i h = tt
     levels-puts (suc j) i h =
         let deep : i ≤ settings-of (w .levels) .deepest = omega (arith, h) in (
@@ -195,7 +196,7 @@ module _ (w : Tables) (sound : table-refusal (w .entries) (w .levels) ≡ 0) (fo
         )
 
     all-puts : All PutsOnly (p .levels)
-    unfolding read-state
+    unfolding state-as
     all-puts = levels-puts (suc (settings-of (w .levels) .deepest)) 0 (omega arith)
 
     repeated : (s : ℕ) (rs : List ℕ) → Inside n s → All (Inside n) rs → any (eqb (lo-of e s)) (map (lo-of e) rs) ≡ true → 1 ≤ times s rs
@@ -220,11 +221,11 @@ module _ (w : Tables) (sound : table-refusal (w .entries) (w .levels) ≡ 0) (fo
     )
 
     -- What merging leaves.
-    abbrev left : List (Point ℕ ℕ)
+    abbrev left : List (Point ℕ Tally)
     left = bottom n p form .points
 
     abbrev left-keys : List ℕ
-    left-keys = map (λ (q : Point ℕ ℕ). q .key) left
+    left-keys = map (λ (q : Point ℕ Tally). q .key) left
 
     -- A lookup finds each of them, before merging and after.
     named : (s : ℕ) → Inside n s → names left (lo-of e s) ≡ true
@@ -238,7 +239,7 @@ module _ (w : Tables) (sound : table-refusal (w .entries) (w .levels) ≡ 0) (fo
         → All (λ x. any (eqb x) left-keys ≡ true) (map (lo-of e) rs)
     all-named [] a = tt
     all-named (s ∷ rs) a = (
-      any-map (λ (q : Point ℕ ℕ). q .key) (eqb (lo-of e s)) left
+      any-map (λ (q : Point ℕ Tally). q .key) (eqb (lo-of e s)) left
           ∙ any-same (λ q. eqb (lo-of e s) (q .key)) (λ q. eqb (q .key) (lo-of e s)) (λ q. eqb-sym (lo-of e s) (q .key)) left ∙ named s (a .0),
       all-named rs (a .1),
     )
@@ -251,7 +252,7 @@ module _ (w : Tables) (sound : table-refusal (w .entries) (w .levels) ≡ 0) (fo
           arith,
           pigeonhole (map (lo-of e) ss) left-keys (distinct ss inside (once-most n ss o)) (all-named ss inside),
           length-map ss (lo-of e),
-          length-map left (λ (q : Point ℕ ℕ). q .key),
+          length-map left (λ (q : Point ℕ Tally). q .key),
           o .number,
         )
 
@@ -262,7 +263,7 @@ module _ (w : Tables) (sound : table-refusal (w .entries) (w .levels) ≡ 0) (fo
 
     lacking : names left k ≡ false
     lacking =
-        let test : Point ℕ ℕ → Bool = λ q. eqb (q .key) k in
+        let test : Point ℕ Tally → Bool = λ q. eqb (q .key) k in
         none-counted test left (omega (
           arith,
           merge-all-counts test p (form .formed),
@@ -271,19 +272,19 @@ module _ (w : Tables) (sound : table-refusal (w .entries) (w .levels) ≡ 0) (fo
           uncounted ss (slots-inside none-free all-puts),
         ))
 
-    pub slots-full : (t a : ℕ) → no-slot t (put k a) p ≡ true
+    pub slots-full : (t : ℕ) (a : Tally) → no-slot t (put k a) p ≡ true
     slots-full t a = live-full n p form k (live-slots n p form stamps k (omega (arith, remain, bottom n p form .counted)) lacking) t a
 
   -- The clock of what the tables read as is their own.
   clock-is : p .clock ≡ clock-of e
-  unfolding read-state
+  unfolding state-as
   clock-is = refl
 
   seven : (b : Bool) → _≡_ {A = ℕ} (cond b 7 0) 7 → b ≡ true
   seven true q = refl
   seven false q = absurd (omega arith)
 
-  pub full-of-formed : (t k a : ℕ) → k ≤ 65535 → bad-clock t (clock-of (w .entries)) ≡ false
+  pub full-of-formed : (t k : ℕ) (a : Tally) → k ≤ 65535 → bad-clock t (clock-of (w .entries)) ≡ false
       → (call-tables w (record { clock = t; op = written (put k a) }) .answer .refusal ≡ 7) ↔ SlotsLive k w
   full-of-formed t k a h b =
       let number : call-tables w (record { clock = t; op = written (put k a) }) .answer .refusal ≡ cond (no-slot t (put k a) p) 7 0 =
@@ -293,6 +294,6 @@ module _ (w : Tables) (sound : table-refusal (w .entries) (w .levels) ≡ 0) (fo
       )
 
 pub full-exactly : (w : Tables) → Fits32 (w .entries) → table-refusal (w .entries) (w .levels) ≡ 0
-    → (t k a : ℕ) → k ≤ 65535 → bad-clock t (clock-of (w .entries)) ≡ false
+    → (t k : ℕ) (a : Tally) → k ≤ 65535 → bad-clock t (clock-of (w .entries)) ≡ false
     → (call-tables w (record { clock = t; op = written (put k a) }) .answer .refusal ≡ 7) ↔ SlotsLive k w
 full-exactly w fits sound = full-of-formed w sound (sound-words (w .entries) (w .levels) fits sound .formed)

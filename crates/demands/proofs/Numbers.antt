@@ -12,6 +12,7 @@ use Rattle.lists.proofs.Bools.{or-false-left, or-false-right, and-second-false}
 use Rattle.settings.specs.declared.Settings.{Settings}
 use Rattle.settings.specs.Limits.{capacity, limit}
 use Rattle.settings.proofs.Allowed.{allowed-bounds}
+use Rattle.model.specs.declared.Tally.{Tally}
 use Rattle.model.specs.Records.{Level, State, empty, level, held, held-all}
 use Rattle.model.specs.Steps.{due}
 use Rattle.model.specs.Calls.{Call, count-written, step, run}
@@ -22,7 +23,7 @@ use Rattle.tables.specs.Words.{Fits32}
 use Rattle.tables.specs.Slots.{slots-of}
 use Rattle.tables.specs.Rows.{settings-of, Row, level-row}
 use Rattle.tables.specs.Sound.{table-refusal}
-use Rattle.tables.specs.Placed.{read-state, row-of-level, level-words}
+use Rattle.tables.specs.Placed.{read-state, row-of-level, level-words, state-as}
 use Rattle.tables.specs.Formed.{Formed}
 use Rattle.tables.proofs.Rows.{settings-back, level-row-at}
 use Rattle.tables.proofs.FormedSound.{sound-words}
@@ -34,7 +35,7 @@ use Rattle.call_tables.proofs.Refusals.{accepted-sound}
 use Rattle.demands.specs.Numbers.{records-of, Settled}
 
 -- A number of each level from i on, which is that of its records, added up to what stood before.
-levels-add : (f : ℕ → ℕ) (vs : List (Level ℕ ℕ)) (i k before : ℕ) → k ≡ length vs → ((m : ℕ) → m < length vs → f (i + m) ≡ held (getD vs m empty))
+levels-add : (f : ℕ → ℕ) (vs : List (Level ℕ Tally)) (i k before : ℕ) → k ≡ length vs → ((m : ℕ) → m < length vs → f (i + m) ≡ held (getD vs m empty))
     → iterate (λ j n. n + f j) i k before ≡ before + held-all vs
 unfolding iterate sum
 levels-add f [] i zero before size each = omega arith
@@ -45,7 +46,7 @@ levels-add f (v ∷ vs) i (suc k) before size each =
     let rest = levels-add f vs (suc i) k (before + f i) (omega arith) (λ m b. ap f (omega arith) ∙ each (suc m) (omega arith)) in
     omega (arith, here, rest)
 
-records-held : (p : State ℕ ℕ) → length (p .levels) ≡ suc (p .settings .deepest) → records-of (level-words p) ≡ held-all (p .levels)
+records-held : (p : State ℕ Tally) → length (p .levels) ≡ suc (p .settings .deepest) → records-of (level-words p) ≡ held-all (p .levels)
 unfolding records-of
 records-held p size =
     levels-add _ (p .levels) _ _ _ (omega (arith, ap (λ (s : Settings). s .deepest) (settings-back p)))
@@ -53,7 +54,7 @@ records-held p size =
     ∙ omega arith
 
 -- A level that is not due is neither over its capacity nor over its limit.
-not-due : (s : Settings) (t i : ℕ) (v : Level ℕ ℕ) → due s t i v ≡ false → Settled s t i (row-of-level v)
+not-due : (s : Settings) (t i : ℕ) (v : Level ℕ Tally) → due s t i v ≡ false → Settled s t i (row-of-level v)
 unfolding due
 not-due s t i v h =
     let over = ltb (capacity s i) (held v) in
@@ -65,14 +66,14 @@ not-due s t i v h =
     }
 
 -- A call that was answered 0, on any tables of 32-bit words: they were sound.
-module _ (w : Tables) (c : Call ℕ) (fits : Fits32 (w .entries)) (ok : call-tables w c .answer .refusal ≡ 0) where
+module _ (w : Tables) (c : Call Tally) (fits : Fits32 (w .entries)) (ok : call-tables w c .answer .refusal ≡ 0) where
   abbrev n : ℕ
   n = slots-of (w .entries)
 
-  abbrev p : State ℕ ℕ
+  abbrev p : State ℕ Tally
   p = read-state (w .entries) (w .levels)
 
-  abbrev after : State ℕ ℕ
+  abbrev after : State ℕ Tally
   after = step p c .state
 
   sound : table-refusal (w .entries) (w .levels) ≡ 0
@@ -101,7 +102,7 @@ module _ (w : Tables) (c : Call ℕ) (fits : Fits32 (w .entries)) (ok : call-tab
   deep = omega (arith, allowed-bounds (p .settings) (formed .settings-ok) .deepest-low)
 
   same-settings : p .settings ≡ settings-of (w .levels)
-  unfolding read-state
+  unfolding state-as
   same-settings = refl
 
   settings-stay : after .settings ≡ p .settings

@@ -1,62 +1,95 @@
--- Tables that differ in the tallies of puts alone meet the same refusals, since no test of soundness asks for such a tally, and read as states that differ so.
-use mathlib.Core.Path.{_≡_, refl, ap, _∙_}
+-- Tables that differ in words of puts' tallies alone meet the same refusals, since no test of soundness asks for such a word, and read as states that differ so.
+use mathlib.Core.Path.{_≡_, refl, sym, ap, _∙_}
 use mathlib.Core.Logic.{_≢_}
-use mathlib.Core.Bool.{Bool, true}
+use mathlib.Core.Bool.{Bool, true, false, cond}
 use mathlib.Core.List.{List, [], _∷_, _++_, map}
-use Prim.Native.Nat.{ℕ, zero, suc, _+_, _*_, _≤_}
+use Prim.Native.Nat.{ℕ, zero, suc, _+_, _*_, _/_, _%_, _≤_}
 use native.Mathlib.Omega.{arith}
 use lib.Dec.{eqb}
-use lib.ListN.{length}
+use lib.ListN.{length, getD}
 use borrow.Author.Tests.{eqb-true, eqb-false, eq-eqb, ne-eqb}
 use Rattle.lists.specs.Lists.{every}
 use Rattle.lists.specs.All.{All}
-use Rattle.lists.proofs.Bools.{by-cases}
-use Rattle.tables.specs.Slots.{slot-size, slot-at, next-of, kind-of, tally-of, first-free}
+use Rattle.lists.proofs.Bools.{by-cases, both-false}
+use Rattle.tables.specs.Slots.{slot-size, slot-at, next-of, kind-of, tally-of, count-of, price-of, first-free}
 use Rattle.tables.specs.Rows.{settings-of, level-row}
 use Rattle.tables.specs.Sound.{chain, chain-from, free-chain, point-chain, range-chain, is-free, is-point, is-range, ascend, is-stamped, owed-before, level-sound, levels-sound, record-slots, chains-sound, entries-fit, table-refusal}
-use Rattle.tables.specs.Placed.{read-point, read-range, read-level, read-levels, read-state}
+use Rattle.tables.specs.Placed.{read-range, point-as, level-as, levels-as, state-as, read-state}
 use Rattle.tables.proofs.Linked.{range-parts}
 use Rattle.tables.proofs.SoundWords.{Sound, sound-facts}
-use Rattle.tables.proofs.Tallies.{aside, point-aside, range-aside, level-aside, entry-aside}
-use Rattle.demands.specs.Numbers.{SameEntries}
+use Rattle.tables.proofs.Shown.{state-less}
+use Rattle.tables.proofs.Tallies.{aside}
+use Rattle.demands.specs.Hidden.{tally-word, price-word, SameEntries, masked}
 
 every-same : {X : Type 0} (t u : X → Bool) → ((x : X) → t x ≡ u x) → (xs : List X) → every t xs ≡ every u xs
 unfolding every
 every-same t u h [] = refl
 every-same t u h (x ∷ xs) = rw (h x, every-same t u h xs)
 
-module _ (e f : List ℕ) (h : SameEntries e f) where
-  -- The words of a slot: word 2 may differ in a put only.
+-- Only words of tallies may differ, of the five of a slot.
+pub record OnlyTallies (hides : ℕ → Bool) : Type 0 where
+  pub link : hides 0 ≡ false
+  pub span : hides 1 ≡ false
+  pub stamp : hides 3 ≡ false
+
+pub tallies-only : OnlyTallies tally-word
+tallies-only = record { link = refl; span = refl; stamp = refl }
+
+pub prices-only : OnlyTallies price-word
+prices-only = record { link = refl; span = refl; stamp = refl }
+
+module _ (hides : ℕ → Bool) (only : OnlyTallies hides) (e f : List ℕ) (h : SameEntries hides e f) where
+  -- A word at a place that may not differ.
+  pub shown-same : (i place : ℕ) → i % slot-size ≡ place → hides place ≡ false → getD e i 0 ≡ getD f i 0
+  shown-same i place at shown = h .words i (λ t. both-false (t .2) (ap hides at ∙ shown))
+
   link-same : (s : ℕ) → slot-at e s .link ≡ slot-at f s .link
-  link-same s = h .words (slot-size * s) (λ t. omega (arith, t .1))
+  link-same s = shown-same (slot-size * s) 0 (omega arith) (only .link)
 
   span-same : (s : ℕ) → slot-at e s .span ≡ slot-at f s .span
-  span-same s = h .words (slot-size * s + 1) (λ t. omega (arith, t .1))
+  span-same s = shown-same (slot-size * s + 1) 1 (omega arith) (only .span)
 
   stamp-same : (s : ℕ) → slot-at e s .stamp ≡ slot-at f s .stamp
-  stamp-same s = h .words (slot-size * s + 3) (λ t. omega (arith, t .1))
+  stamp-same s = shown-same (slot-size * s + 3) 3 (omega arith) (only .stamp)
 
-  tally-same : (s : ℕ) → kind-of e s ≢ 1 → tally-of e s ≡ tally-of f s
-  tally-same s n = h .words (slot-size * s + 2) (λ t. n (ap (kind-of e) (omega arith) ∙ t .2))
+  -- Any word of a slot that is no put.
+  other-same : (i s : ℕ) → i / slot-size ≡ s → kind-of e s ≢ 1 → getD e i 0 ≡ getD f i 0
+  other-same i s at n = h .words i (λ t. n (ap (kind-of e) (sym at) ∙ t .1))
 
-  top-same : tally-of e 0 ≡ tally-of f 0
-  top-same = h .words 2 (λ t. omega (arith, t .0))
+  count-same : (s : ℕ) → kind-of e s ≢ 1 → count-of e s ≡ count-of f s
+  count-same s = other-same (slot-size * s + 2) s (omega arith)
 
-  -- What is asked of a slot's words, where a put's word 2 is not, has the same answer.
-  form-same : (test : List ℕ → ℕ → Bool) (s : ℕ) → (kind-of e s ≡ 1 → test e s ≡ test f s) → (tally-of e s ≡ tally-of f s → test e s ≡ test f s) → test e s ≡ test f s
-  form-same test s put other = by-cases (eqb (kind-of e s) 1) (λ q. put (eqb-true (kind-of e s) 1 q)) (λ q. other (tally-same s (eqb-false (kind-of e s) 1 q)))
+  price-same : (s : ℕ) → kind-of e s ≢ 1 → price-of e s ≡ price-of f s
+  price-same s = other-same (slot-size * s + 4) s (omega arith)
+
+  -- And of slot 0.
+  top-count-same : count-of e 0 ≡ count-of f 0
+  top-count-same = h .words 2 (λ t. omega (arith, t .0))
+
+  top-price-same : price-of e 0 ≡ price-of f 0
+  top-price-same = h .words 4 (λ t. omega (arith, t .0))
+
+  -- What is asked of a slot's words, where a put's tally is not, has the same answer.
+  form-same : (test : List ℕ → ℕ → Bool) (s : ℕ) → (kind-of e s ≡ 1 → test e s ≡ test f s)
+      → (count-of e s ≡ count-of f s → price-of e s ≡ price-of f s → test e s ≡ test f s) → test e s ≡ test f s
+  form-same test s put other = by-cases (eqb (kind-of e s) 1)
+      (λ q. put (eqb-true (kind-of e s) 1 q))
+      (λ q. let n = eqb-false (kind-of e s) 1 q in other (count-same s n) (price-same s n))
 
   free-same : (s : ℕ) → is-free e s ≡ is-free f s
   free-same s = form-same is-free s
-      (λ q. rw (link-same s, ne-eqb (kind-of f s) 0 (omega (arith, q, link-same s)))) (λ q. rw (link-same s, span-same s, q, stamp-same s))
+      (λ q. rw (link-same s, ne-eqb (kind-of f s) 0 (omega (arith, q, link-same s))))
+      (λ count price. rw (link-same s, span-same s, count, price, stamp-same s))
 
   point-form-same : (s : ℕ) → is-point e s ≡ is-point f s
   point-form-same s = form-same is-point s
-      (λ q. rw (link-same s, span-same s, eq-eqb (kind-of f s) 1 (omega (arith, q, link-same s)))) (λ q. rw (link-same s, span-same s, q))
+      (λ q. rw (link-same s, span-same s, eq-eqb (kind-of f s) 1 (omega (arith, q, link-same s))))
+      (λ count price. rw (link-same s, span-same s, count, price))
 
   range-form-same : (s : ℕ) → is-range e s ≡ is-range f s
   range-form-same s = form-same is-range s
-      (λ q. rw (link-same s, span-same s, ne-eqb (kind-of f s) 3 (omega (arith, q, link-same s)))) (λ q. rw (link-same s, span-same s, q, stamp-same s))
+      (λ q. rw (link-same s, span-same s, ne-eqb (kind-of f s) 3 (omega (arith, q, link-same s))))
+      (λ count price. rw (link-same s, span-same s, count, price, stamp-same s))
 
   chain-same : (k s : ℕ) → chain k e s ≡ chain k f s
   unfolding chain
@@ -109,41 +142,58 @@ module _ (e f : List ℕ) (h : SameEntries e f) where
         rw (
           free-chain-same,
           h .size,
-          top-same,
+          top-count-same,
+          top-price-same,
           stamp-same 0,
           every-same (is-free e) (is-free f) free-same (free-chain f),
           levels-sound-same d 0,
           record-slots-same d 0,
         )
 
-    -- What sound tables read as, tallies aside: chains hang on words 0, points on words 0, 1 and 3, and ranges on their dates too.
-    module _ (sound : table-refusal e l ≡ 0) where
+    -- What sound tables read as to whom each slot shows the same: chains hang on words 0, points on words 0, 1 and 3, and ranges on their dates too.
+    module _ {A : Type 0} (shown : List ℕ → ℕ → A) (alike : (s : ℕ) → shown e s ≡ shown f s) (sound : table-refusal e l ≡ 0) where
       facts : Sound e l
       facts = sound-facts e l sound
 
-      points-same : (ss : List ℕ) → map point-aside (map (read-point e) ss) ≡ map point-aside (map (read-point f) ss)
+      points-same : (ss : List ℕ) → map (point-as shown e) ss ≡ map (point-as shown f) ss
       points-same [] = refl
-      points-same (s ∷ ss) = rw (link-same s, span-same s, stamp-same s, entry-aside (eqb (kind-of f s) 1) (tally-of e s) (tally-of f s), points-same ss)
+      points-same (s ∷ ss) = rw (link-same s, span-same s, stamp-same s, alike s, points-same ss)
 
-      ranges-same : (ss : List ℕ) → All (λ s. is-range e s ≡ true) ss → map range-aside (map (read-range e) ss) ≡ map range-aside (map (read-range f) ss)
+      ranges-same : (ss : List ℕ) → All (λ s. is-range e s ≡ true) ss → map (read-range e) ss ≡ map (read-range f) ss
       ranges-same [] a = refl
-      ranges-same (s ∷ ss) a = rw (span-same s, stamp-same s, tally-same s (omega (arith, range-parts e s (a .0) .kind)), ranges-same ss (a .1))
+      ranges-same (s ∷ ss) a = rw (span-same s, stamp-same s, count-same s (omega (arith, range-parts e s (a .0) .kind)), ranges-same ss (a .1))
 
-      level-same : (i : ℕ) → i ≤ settings-of l .deepest → level-aside (read-level e l i) ≡ level-aside (read-level f l i)
+      level-same : (i : ℕ) → i ≤ settings-of l .deepest → level-as shown e l i ≡ level-as shown f l i
       level-same i b =
-          let ps : map point-aside (map (read-point e) (point-chain e l i)) ≡ map point-aside (map (read-point f) (point-chain f l i)) =
-          points-same (point-chain e l i) ∙ ap (λ ss. map point-aside (map (read-point f) ss)) (from-same (level-row l i .points)) in
-          let rs : map range-aside (map (read-range e) (range-chain e l i)) ≡ map range-aside (map (read-range f) (range-chain f l i)) =
-          ranges-same (range-chain e l i) (facts .levels i b .range-forms) ∙ ap (λ ss. map range-aside (map (read-range f) ss)) (from-same (level-row l i .ranges)) in
+          let ps : map (point-as shown e) (point-chain e l i) ≡ map (point-as shown f) (point-chain f l i) =
+          points-same (point-chain e l i) ∙ ap (map (point-as shown f)) (from-same (level-row l i .points)) in
+          let rs : map (read-range e) (range-chain e l i) ≡ map (read-range f) (range-chain f l i) =
+          ranges-same (range-chain e l i) (facts .levels i b .range-forms) ∙ ap (map (read-range f)) (from-same (level-row l i .ranges)) in
           rw (ps, rs)
 
-      levels-same : (j i : ℕ) → i + j ≤ suc (settings-of l .deepest) → map level-aside (read-levels e l j i) ≡ map level-aside (read-levels f l j i)
-      unfolding read-levels
+      levels-same : (j i : ℕ) → i + j ≤ suc (settings-of l .deepest) → levels-as shown e l j i ≡ levels-as shown f l j i
+      unfolding levels-as
       levels-same zero i b = refl
       levels-same (suc j) i b =
-          ap (λ x. x ∷ map level-aside (read-levels e l j (suc i))) (level-same i (omega (arith, b)))
-          ∙ ap (_∷_ (level-aside (read-level f l i))) (levels-same j (suc i) (omega (arith, b)))
+          ap (λ x. x ∷ levels-as shown e l j (suc i)) (level-same i (omega (arith, b)))
+          ∙ ap (_∷_ (level-as shown f l i)) (levels-same j (suc i) (omega (arith, b)))
 
-      pub state-same : aside (read-state e l) ≡ aside (read-state f l)
-      unfolding read-state
+      pub state-same : state-as shown e l ≡ state-as shown f l
+      unfolding state-as
       state-same = rw (free-chain-same, span-same 0, levels-same (suc (settings-of l .deepest)) 0 (omega arith))
+
+    -- Behind the mask all tallies are shown the same.
+    masked-word : (i place : ℕ) → i % slot-size ≡ place → (b : Bool) → hides place ≡ b → cond b 0 (getD e i 0) ≡ cond b 0 (getD f i 0)
+    masked-word i place at true q = refl
+    masked-word i place at false q = shown-same i place at q
+
+    masked-same : (s : ℕ) → masked hides (tally-of e s) ≡ masked hides (tally-of f s)
+    masked-same s = rw (
+      masked-word (slot-size * s + 2) 2 (omega arith) (hides 2) refl,
+      masked-word (slot-size * s + 4) 4 (omega arith) (hides 4) refl,
+    )
+
+    pub aside-same : table-refusal e l ≡ 0 → aside (masked hides) (read-state e l) ≡ aside (masked hides) (read-state f l)
+    aside-same sound =
+        sym (state-less tally-of (masked hides) e l) ∙ state-same (λ e s. masked hides (tally-of e s)) masked-same sound
+        ∙ state-less tally-of (masked hides) f l

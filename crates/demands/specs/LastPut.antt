@@ -5,13 +5,14 @@ use mathlib.Core.List.{List}
 use Prim.Native.Nat.{ℕ, _<_}
 use lib.Dec.{eqb}
 use lib.ListN.{getD}
+use Rattle.model.specs.declared.Tally.{Tally}
 use Rattle.model.specs.Coverage.{over, covers}
 use Rattle.model.specs.Steps.{put, delete, delete-range}
 use Rattle.model.specs.Calls.{Op, written, flush, tick, Call}
 use Rattle.model.specs.Erasure.{call-at}
 
 -- The call puts docket k, or deletes what was put there at clock t: "The map removes a docket in the range when its current stamp is at most s".
-abbrev pub overrides : Op ℕ → ℕ → ℕ → Bool
+abbrev pub overrides : Op Tally → ℕ → ℕ → Bool
 overrides (written (put n a)) k t = eqb n k
 overrides (written (delete n)) k t = over n n k
 overrides (written (delete-range lo hi date)) k t = covers lo hi date k t
@@ -24,7 +25,7 @@ refusal-at rs i = getD rs i 5
 
 -- Some call of the list cs, whose calls met the refusals rs, was a put of docket k with tally a at clock t, answered 0, and no later call that was answered 0
 -- puts the docket or covers that put.
-pub record LastPut (rs : List ℕ) (cs : List (Call ℕ)) (k a t : ℕ) : Type 0 where
+pub record LastPut (rs : List ℕ) (cs : List (Call Tally)) (k : ℕ) (a : Tally) (t : ℕ) : Type 0 where
   pub place : ℕ
   pub is-put : call-at cs place ≡ record { clock = t; op = written (put k a) }
   pub accepted : refusal-at rs place ≡ 0

@@ -2,23 +2,30 @@
 use c_packing::pack;
 use c_packing::pack_lookup;
 use c_packing::pack_scan;
+use c_packing::price_of;
 use call_any::call;
 use call_op::Op;
 use check_refusal::table_refusal;
 use lookup::lookup;
+use lookup::lookup_count;
+use lookup::without_price;
 use make::make;
+use model::Tally;
+use scan::CountRow;
 use scan::Row;
 use scan::scan;
+use scan::scan_counts;
 ghost use mathlib.Core.Path.{_≡_};
 ghost use Rattle.tables.specs.Sound.{table-refusal};
 ghost use Rattle.make.specs.Make.{make-tables};
 ghost use Rattle.lookup.specs.Lookup.{lookup-tables};
+ghost use Rattle.lookup.specs.Counts.{lookup-counts};
 ghost use Rattle.model.specs.Steps.{put, delete, delete-range};
 ghost use Rattle.model.specs.Calls.{written, flush, tick};
 ghost use Rattle.call_tables.specs.Calls.{lent, call-tables};
-ghost use Rattle.scan.specs.Scan.{scan-tables};
+ghost use Rattle.scan.specs.Scan.{scan-tables, scan-counts-tables};
 ghost use Rattle.call_op.specs.Ops.{op-of};
-ghost use Rattle.c_packing.specs.Packed.{packed, packed-call, packed-scan};
+ghost use Rattle.c_packing.specs.Packed.{packed, packed-lookup, packed-call, packed-scan};
 
 // The number of the refusal that the tables meet, 1 to 3, or 0 where they are sound.
 #[no_mangle]
@@ -43,26 +50,54 @@ pub extern "C" fn guontrem_make(
     make(entries, levels, deepest, ratio, buffer, term)
 }
 
-// Tally and stamp in the lower and the upper half; where the upper half is 0, the lower is the refusal, or 0 for absent.
+// Count and stamp in the lower and the upper half; where the upper half is 0, the lower is the refusal, or 0 for absent. The price goes to a place
+// of its own: 0 where the docket is absent or the lookup refused.
 #[no_mangle]
-pub extern "C" fn guontrem_lookup(entries: &[u32], levels: &[u32], docket: u32) -> u64
-    ensures { λ r. ⌜ r ≡ packed (lookup-tables (now (entries .entry)) (now (levels .entry)) docket) ⌝ }
+pub extern "C" fn guontrem_lookup(
+    entries: &[u32],
+    levels: &[u32],
+    docket: u32,
+    price: &mut u32,
+) -> u64
+    ensures { λ r. ⌜ record { number = r; price = now (price .exit) } ≡ packed-lookup (lookup-tables (now (entries .entry)) (now (levels .entry)) docket) ⌝ }
 {
-    pack_lookup(lookup(entries, levels, docket))
+    let answer = lookup(entries, levels, docket);
+    *price = price_of(answer);
+    pack_lookup(without_price(answer))
 }
 
-// Puts a docket's tally.
+// The grower's lookup: count and stamp alone.
+#[no_mangle]
+pub extern "C" fn guontrem_lookup_count(entries: &[u32], levels: &[u32], docket: u32) -> u64
+    ensures { λ r. ⌜ r ≡ packed (lookup-counts (now (entries .entry)) (now (levels .entry)) docket) ⌝ }
+{
+    pack_lookup(lookup_count(entries, levels, docket))
+}
+
+// Puts a docket's count and price.
 #[no_mangle]
 pub extern "C" fn guontrem_put(
     entries: &mut [u32],
     levels: &mut [u32],
     clock: u32,
     docket: u32,
-    tally: u32,
+    count: u32,
+    price: u32,
 ) -> u64
-    ensures { λ r. ⌜ record { tables = lent (now (entries .exit)) (now (levels .exit)); number = r } ≡ packed-call (call-tables (lent (now (entries .entry)) (now (levels .entry))) (record { clock = clock; op = written (put docket tally) })) ⌝ }
+    ensures { λ r. ⌜ record { tables = lent (now (entries .exit)) (now (levels .exit)); number = r } ≡ packed-call (call-tables (lent (now (entries .entry)) (now (levels .entry))) (record { clock = clock; op = written (put docket (record { count = count; price = price })) })) ⌝ }
 {
-    call_packed(entries, levels, clock, Op::Put(docket, tally))
+    call_packed(
+        entries,
+        levels,
+        clock,
+        Op::Put(
+            docket,
+            Tally {
+                count: count,
+                price: price,
+            },
+        ),
+    )
 }
 
 // Deletes a docket.
@@ -144,4 +179,19 @@ pub extern "C" fn guontrem_scan(
     ensures { λ _. ⌜ now (rows .exit) ≡ scan-tables (now (entries .entry)) (now (levels .entry)) lo hi (now (rows .entry)) .rows ⌝ }
 {
     pack_scan(scan(entries, levels, lo, hi, rows))
+}
+
+// The same over the grower's rows, counts and stamps alone.
+#[no_mangle]
+pub extern "C" fn guontrem_scan_counts(
+    entries: &[u32],
+    levels: &[u32],
+    lo: u32,
+    hi: u32,
+    rows: &mut [CountRow],
+) -> u64
+    ensures { λ r. ⌜ r ≡ packed-scan (scan-counts-tables (now (entries .entry)) (now (levels .entry)) lo hi (now (rows .entry)) .answer) ⌝ }
+    ensures { λ _. ⌜ now (rows .exit) ≡ scan-counts-tables (now (entries .entry)) (now (levels .entry)) lo hi (now (rows .entry)) .rows ⌝ }
+{
+    pack_scan(scan_counts(entries, levels, lo, hi, rows))
 }

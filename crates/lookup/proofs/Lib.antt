@@ -1,5 +1,6 @@
--- Laws of the levels, of the refusals and of the answer's numbers.
+-- Laws of the levels, of the refusals, of the answer's numbers and of its count.
 pub mod Levels
 pub mod Refused
 pub mod Numbers
+pub mod Counts
 pub mod Bounds

@@ -6,6 +6,7 @@ use mathlib.Core.List.{List}
 use Prim.Native.Nat.{ℕ}
 use borrow.Author.Tests.{eqb-true, ne-eqb}
 use lib.Dec.{eqb}
+use Rattle.model.specs.declared.Tally.{Tally}
 use Rattle.model.specs.Lookup as model
 use Rattle.tables.specs.Placed.{read-state}
 use Rattle.check_refusal.specs.Dockets.{docket-refusal}
@@ -14,7 +15,7 @@ use Rattle.lookup.specs.declared.Answer.the-variants.{Refused}
 use Rattle.lookup.specs.Lookup.{answered, lookup-tables, numbers}
 
 -- What is found or absent is not refused.
-found-unrefused : (f : model.Found ℕ) → numbers (answered f) .refusal ≡ 0
+found-unrefused : (f : model.Found Tally) → numbers (answered f) .refusal ≡ 0
 found-unrefused model.absent = refl
 found-unrefused (model.found a t) = refl
 
@@ -31,7 +32,7 @@ module _ (e l : List ℕ) (k : ℕ) where
 
   -- "A refusal gives its number and zeros."
   pub refused-zeros : docket-refusal e l k k ≢ 0
-      → numbers (lookup-tables e l k) ≡ record { refusal = docket-refusal e l k k; found = 0; tally = 0; stamp = 0 }
+      → numbers (lookup-tables e l k) ≡ record { refusal = docket-refusal e l k k; found = 0; count = 0; price = 0; stamp = 0 }
   unfolding lookup-tables
   refused-zeros some = rw (ne-eqb (docket-refusal e l k k) 0 some)
 

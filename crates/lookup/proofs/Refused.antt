@@ -5,6 +5,7 @@ use mathlib.Core.List.{List}
 use Prim.Native.Nat.{ℕ, _≤_}
 use native.Mathlib.Omega.{arith}
 use borrow.Author.Tests.{eq-eqb, ne-eqb, le-ltb}
+use Rattle.model.specs.declared.Tally.{Tally}
 use Rattle.model.specs.Lookup as model
 use Rattle.model.specs.Records.{State}
 use Rattle.tables.specs.Placed.{entry-words, level-words, read-state}
@@ -29,7 +30,7 @@ module _ (e l : List ℕ) (k r : ℕ) (checked : r ≡ docket-refusal e l k k) w
   looked-up z f says a is = rw (← checked, eq-eqb r 0 z) (sym is ∙ ap answered says)
 
 -- On the words of a formed state, a docket is looked up in that state.
-pub looked-up-words : (n : ℕ) (p : State ℕ ℕ) (k : ℕ) → Formed n p → k ≤ 65535
+pub looked-up-words : (n : ℕ) (p : State ℕ Tally) (k : ℕ) → Formed n p → k ≤ 65535
     → lookup-tables (entry-words n p) (level-words p) k ≡ answered (model.lookup (p .levels) k)
 unfolding lookup-tables
 looked-up-words n p k f h = rw (words-sound n p f, le-ltb 65535 k h, le-ltb k k (omega arith), written-reads n p f)

@@ -2,6 +2,7 @@
 use check_refusal::docket_refusal;
 use lookup_level::Decided;
 use lookup_level::look_chains;
+use model::Tally;
 use table_levels::deepest_of;
 use table_levels::level_at;
 ghost use mathlib.Core.Path.{_≡_};
@@ -14,9 +15,17 @@ ghost use Rattle.lookup_level.specs.Answers.{level-decides};
 ghost use Rattle.lookup.specs.Found.{found-of};
 ghost use Rattle.lookup_level.specs.Readable.{Readable};
 ghost use Rattle.lookup.specs.Lookup.{lookup-tables, numbers};
+ghost use Rattle.lookup.specs.Counts.{lookup-counts, count-numbers, without-price};
 
-// What a lookup answers: the number of its refusal, or else nothing, or the tally and the stamp.
+// What the hall's lookup answers: the number of its refusal, or else nothing, or the tally and the stamp.
 pub enum Answer {
+    Refused(u32),
+    Absent,
+    Found(Tally, u32),
+}
+
+// What the grower's lookup answers: the same with the count alone.
+pub enum CountAnswer {
     Refused(u32),
     Absent,
     Found(u32, u32),
@@ -25,7 +34,7 @@ pub enum Answer {
 // What the levels hold for a docket: nothing, or the tally and the stamp.
 enum Found {
     Absent,
-    Value(u32, u32),
+    Value(Tally, u32),
 }
 
 // Looks one docket up; refused where the tables are not sound, or no docket has the number.
@@ -40,6 +49,25 @@ pub fn lookup(entries: &[u32], levels: &[u32], docket: u32) -> Answer
     match look_up(entries, levels, docket) {
         Found::Absent => Answer::Absent,
         Found::Value(tally, stamp) => Answer::Found(tally, stamp),
+    }
+}
+
+// Looks one docket up for the grower: count and stamp.
+pub fn lookup_count(entries: &[u32], levels: &[u32], docket: u32) -> CountAnswer
+    ensures { λ r. ⌜ r ≡ lookup-counts (now (entries .entry)) (now (levels .entry)) docket ⌝ }
+    ensures { λ r. ⌜ count-numbers r .refusal ≡ docket-refusal (now (entries .entry)) (now (levels .entry)) docket docket ⌝ }
+{
+    without_price(lookup(entries, levels, docket))
+}
+
+// The answer with the price left out.
+pub fn without_price(answer: Answer) -> CountAnswer
+    ensures { λ r. ⌜ r ≡ without-price answer ⌝ }
+{
+    match answer {
+        Answer::Refused(refusal) => CountAnswer::Refused(refusal),
+        Answer::Absent => CountAnswer::Absent,
+        Answer::Found(tally, stamp) => CountAnswer::Found(tally.count, stamp),
     }
 }
 

@@ -7,6 +7,7 @@ use native.Mathlib.Omega.{arith}
 use borrow.Author.Tests.{ne-eqb}
 use lib.Dec.{leb, eqb}
 use Rattle.lists.specs.All.{All}
+use Rattle.model.specs.declared.Tally.{Tally}
 use Rattle.model.specs.Records.{Entry, value, tombstone, Point, Level}
 use Rattle.model.specs.Lookup as model
 use Rattle.model.specs.Lookup.{latest}
@@ -24,16 +25,16 @@ module _ (date : ℕ) where
   decides-past e k (s ∷ ss) a = rw (ne-eqb (lo-of e s) k (omega arith)) (decides-past e k ss (a .1))
 
   -- What a point decides is what the model finds by it.
-  pub settle-tells : (met : ℕ) (x : Entry ℕ) (t : ℕ) (deeper : ℕ → model.Found ℕ) → settle (meets met (tells date x t)) deeper ≡ model.judged date x t
+  pub settle-tells : (met : ℕ) (x : Entry Tally) (t : ℕ) (deeper : ℕ → model.Found Tally) → settle (meets met (tells date x t)) deeper ≡ model.judged date x t
   settle-tells met x t deeper = go (leb t date) x
     where
-      go : (b : Bool) (x : Entry ℕ) → settle (meets met (cond b Absent (says x t))) deeper ≡ cond b model.absent (model.reads x t)
+      go : (b : Bool) (x : Entry Tally) → settle (meets met (cond b Absent (says x t))) deeper ≡ cond b model.absent (model.reads x t)
       go true x = refl
       go false (value a) = refl
       go false tombstone = refl
 
   -- What is decided is what the model finds, with the deeper levels behind it.
-  pub find-decides : (met : ℕ) (ps : List (Point ℕ ℕ)) (k : ℕ) (deeper : ℕ → model.Found ℕ)
+  pub find-decides : (met : ℕ) (ps : List (Point ℕ Tally)) (k : ℕ) (deeper : ℕ → model.Found Tally)
       → model.find date ps k (deeper (max date met)) ≡ settle (meets met (decides date ps k)) deeper
   unfolding model.find decides
   find-decides met [] k deeper = refl
@@ -46,17 +47,17 @@ module _ (date : ℕ) where
       go false h = h
 
 -- Deeper levels that give the same for every date.
-pub settle-same : (d : Decided) (f g : ℕ → model.Found ℕ) → ((met : ℕ) → f met ≡ g met) → settle d f ≡ settle d g
+pub settle-same : (d : Decided) (f g : ℕ → model.Found Tally) → ((met : ℕ) → f met ≡ g met) → settle d f ≡ settle d g
 settle-same (Value a t) f g same = refl
 settle-same Absent f g same = refl
 settle-same (Deeper met) f g same = same met
 
-pub lookup-decides : (date : ℕ) (l : Level ℕ ℕ) (ls : List (Level ℕ ℕ)) (k : ℕ)
+pub lookup-decides : (date : ℕ) (l : Level ℕ Tally) (ls : List (Level ℕ Tally)) (k : ℕ)
     → model.lookup-from date (l ∷ ls) k ≡ settle (level-decides date l k) (λ met. model.lookup-from met ls k)
 unfolding model.lookup-from level-decides
 lookup-decides date l ls k = find-decides date (latest (l .ranges) k) (l .points) k (λ met. model.lookup-from met ls k)
 
-module _ (l : Level ℕ ℕ) (k date : ℕ) (d : Decided) (is : d ≡ decides date (l .points) k) where
+module _ (l : Level ℕ Tally) (k date : ℕ) (d : Decided) (is : d ≡ decides date (l .points) k) where
   -- A point of the docket has decided.
   pub level-by-point : meets (latest (l .ranges) k) d ≡ d → d ≡ level-decides date l k
   unfolding level-decides

@@ -1,6 +1,7 @@
 // Lookup of one docket in one level, given by its two chains: the points first, then the ranges. A lookup carries the latest date of
 // the ranges over its docket that it has met so far.
 use chain_cover::latest_date;
+use model::Tally;
 use table_slots::PUT;
 use table_slots::kind_of;
 use table_slots::lo_of;
@@ -18,7 +19,7 @@ ghost use Rattle.lookup_level.specs.Answers.{tells, decides, chain-level
 
 // What one level says: a tally and a stamp, that the docket is absent, or to go deeper with the latest date met so far.
 pub enum Decided {
-    Value(u32, u32),
+    Value(Tally, u32),
     Absent,
     Deeper(u32),
 }

@@ -12,6 +12,7 @@ use Rattle.settings.specs.declared.Settings.{Settings}
 use Rattle.settings.specs.Limits.{allowed}
 use Rattle.lists.specs.Lists.{count}
 use Rattle.lists.proofs.Tests.{all-replicate}
+use Rattle.model.specs.declared.Tally.{Tally}
 use Rattle.model.specs.Records.{Level, empty, fresh}
 use Rattle.tables.specs.Slots.{free-slot, top-slot}
 use Rattle.tables.specs.Rows.{no-row, level-table}
@@ -51,7 +52,7 @@ times-within x (suc k) s low high = go (ℕ-discrete x s) (times-within x k (suc
     go (no q) ih = rw (ne-eqb x s q) (omega (arith, ih (omega arith) (omega arith)))
 
 -- Levels without records have neither slots nor chains.
-no-slots : (k : ℕ) → levels-slots {S = ℕ} {A = ℕ} (replicate k empty) ≡ []
+no-slots : (k : ℕ) → levels-slots {S = ℕ} {A = Tally} (replicate k empty) ≡ []
 no-slots zero = refl
 no-slots (suc k) = no-slots k
 
@@ -59,7 +60,7 @@ no-chains : (n k : ℕ) (e : List ℕ) → AllChained n e (level-chains (replica
 no-chains n zero e = tt
 no-chains n (suc k) e = (tt, (tt, no-chains n k e))
 
-getD-empty : (k i : ℕ) → getD (replicate k (empty {S = ℕ} {A = ℕ})) i empty ≡ empty
+getD-empty : (k i : ℕ) → getD (replicate k (empty {S = ℕ} {A = Tally})) i empty ≡ empty
 getD-empty zero i = refl
 getD-empty (suc k) zero = refl
 getD-empty (suc k) (suc i) = getD-empty k i
@@ -100,7 +101,7 @@ module _ (n : ℕ) (s : Settings) (low : 1 ≤ n) (high : n ≤ 65535) (a : allo
     settings-ok = a;
     size = length-replicate (suc (s .deepest)) empty;
     levels-ok = all-replicate (LevelFormed 0) (suc (s .deepest)) empty (empty-formed 0);
-    deepest-owes-nothing = ap (λ (l : Level ℕ ℕ). l .owed) (getD-empty (suc (s .deepest)) (s .deepest));
+    deepest-owes-nothing = ap (λ (l : Level ℕ Tally). l .owed) (getD-empty (suc (s .deepest)) (s .deepest));
     slots-once =
         rw (no-slots (suc (s .deepest)), append-nil)
         (facts-once n (upto n) (record { number = length-count-up n 1; each = λ t b c. times-within t n 1 b (omega arith) }));

@@ -7,13 +7,14 @@ use lib.ListN.{length, length-append, length-map}
 use Rattle.lists.specs.Lists.{select, reject}
 use Rattle.lists.proofs.Tests.{length-select}
 use Rattle.lists.proofs.Merges.{length-merge}
+use Rattle.model.specs.declared.Tally.{Tally}
 use Rattle.model.specs.Records.{Level, is-put, held}
 use Rattle.model.specs.Merge.{point-before, range-before, point-goes, range-goes, later, merged, settled}
 use Rattle.tables.specs.Placed.{Cell, free-cell}
 use Rattle.tables.proofs.Cells.{chain-slots}
 use Rattle.chain_cells.specs.Held.{Held}
 
-pub held-merged : (u l : Level ℕ ℕ)
+pub held-merged : (u l : Level ℕ Tally)
     → held (merged u l) + length (select (point-goes u) (l .points)) + length (select (range-goes (u .ranges)) (l .ranges)) ≡ held u + held l
 unfolding merged
 held-merged u l = omega (
@@ -25,7 +26,7 @@ held-merged u l = omega (
   length-select (range-goes (u .ranges)) (l .ranges),
 )
 
-pub held-settled : (l : Level ℕ ℕ) → held (settled l) + length (reject (λ p. is-put (p .entry)) (l .points)) + length (l .ranges) ≡ held l
+pub held-settled : (l : Level ℕ Tally) → held (settled l) + length (reject (λ p. is-put (p .entry)) (l .points)) + length (l .ranges) ≡ held l
 unfolding settled
 held-settled l = omega (arith, length-select (λ p. is-put (p .entry)) (l .points))
 

@@ -6,6 +6,7 @@ use Prim.Native.Nat.{ℕ}
 use Rattle.lists.specs.Lists.{select, reject, merge}
 use Rattle.lists.specs.All.{All}
 use Rattle.lists.proofs.Tests.{all-select, all-weaken}
+use Rattle.model.specs.declared.Tally.{Tally}
 use Rattle.model.specs.Records.{Level}
 use Rattle.model.specs.Merge.{point-goes, range-goes, later, release, merged}
 use Rattle.tables.specs.Placed.{Cell, point-cell, range-cell}
@@ -22,7 +23,7 @@ pub release-append : (xs ys free : List ℕ) → release (xs ++ ys) free ≡ rel
 release-append [] ys free = refl
 release-append (x ∷ xs) ys free = release-append xs ys (x ∷ free)
 
-module _ {t : ℕ} {u l : Level ℕ ℕ} (f : LevelFormed t u) (g : LevelFormed t l) where
+module _ {t : ℕ} {u l : Level ℕ Tally} (f : LevelFormed t u) (g : LevelFormed t l) where
   abbrev under : Cell → Bool
   under = goes-under (map point-cell (u .points)) (map range-cell (u .ranges))
 

@@ -3,6 +3,7 @@ use mathlib.Core.Path.{_≡_}
 use mathlib.Core.Bool.{Bool}
 use mathlib.Core.List.{List, _∷_, map}
 use Prim.Native.Nat.{ℕ}
+use Rattle.model.specs.declared.Tally.{Tally}
 use Rattle.model.specs.Records as model
 use Rattle.model.specs.Merge.{gone, release, merged, settled, delete-slots, joined, freed}
 use Rattle.tables.specs.Placed.{Cell, point-cell, range-cell, head}
@@ -11,7 +12,7 @@ use Rattle.chain_cells.specs.Held.{Held}
 use Rattle.table_levels.specs.declared.Level.{Level}
 
 -- What the row of a level tells.
-abbrev pub level-of : model.Level ℕ ℕ → Level
+abbrev pub level-of : model.Level ℕ Tally → Level
 level-of l = record { points = head (map point-cell (l .points)); ranges = head (map range-cell (l .ranges)); held = model.held l; owed = l .owed }
 
 -- Two levels and all that is beside them; time is a clock that no stamp is after.
@@ -20,8 +21,8 @@ pub record Levels : Type 0 where
   pub clock : ℕ
   pub time : ℕ
   pub free : List ℕ
-  pub upper : model.Level ℕ ℕ
-  pub lower : model.Level ℕ ℕ
+  pub upper : model.Level ℕ Tally
+  pub lower : model.Level ℕ Tally
   pub others : List (List Cell)
 
 pub record LevelsHeld (g : Levels) (e : List ℕ) (upper lower : Level) : Type 0 where
@@ -42,7 +43,7 @@ pub record Merged : Type 0 where
   pub slots : ℕ
   pub clock : ℕ
   pub free : List ℕ
-  pub level : model.Level ℕ ℕ
+  pub level : model.Level ℕ Tally
   pub others : List (List Cell)
 
 pub record MergedHeld (g : Merged) (e : List ℕ) (level : Level) : Type 0 where

@@ -6,6 +6,7 @@ use native.Mathlib.Omega.{arith}
 use lib.Dec.{eqb}
 use lib.ListN.{length, set, length-set, length-map}
 use Rattle.lists.proofs.Tests.{set-map}
+use Rattle.model.specs.declared.Tally.{Tally}
 use Rattle.model.specs.Records.{Level, State, empty, level}
 use Rattle.model.specs.Merge.{joined}
 use Rattle.model.specs.Steps.{merge-state}
@@ -14,11 +15,11 @@ use Rattle.tables.specs.Placed.{row-of-level, level-words}
 use Rattle.tables.proofs.Rows.{level-table-set}
 
 -- The level that a merge of level i leaves at i+1.
-abbrev pub merged-level : ℕ → State ℕ ℕ → Level ℕ ℕ
+abbrev pub merged-level : ℕ → State ℕ Tally → Level ℕ Tally
 merged-level i p = joined (eqb (suc i) (p .settings .deepest)) (level i p) (level (suc i) p)
 
 -- "All of row i becomes zero", and the row of i+1 becomes that of the merged level.
-pub merged-words : (i : ℕ) (p : State ℕ ℕ) → suc i < length (p .levels)
+pub merged-words : (i : ℕ) (p : State ℕ Tally) → suc i < length (p .levels)
     → level-words (merge-state i p) ≡ set-row (set-row (level-words p) i no-row) (i + 1) (row-of-level (merged-level i p))
 unfolding merge-state level-words
 merged-words i p deep =

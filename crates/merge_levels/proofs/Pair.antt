@@ -7,6 +7,7 @@ use native.Mathlib.Omega.{arith}
 use lib.Dec.{eqb}
 use lib.ListN.{length, getD, set, length-map}
 use borrow.Author.Tests.{eq-eqb, ne-eqb}
+use Rattle.model.specs.declared.Tally.{Tally}
 use Rattle.model.specs.Records as model
 use Rattle.model.specs.Records.{State, empty, level, held}
 use Rattle.model.specs.Merge.{joined}
@@ -55,7 +56,7 @@ read-level g e l laid i h = ap level-from (laid-row g e l laid i h)
 
 -- What that row says fits a word.
 module _ (deepest : Bool) (g : Levels) (e : List ℕ) (r : Level) (j : Joined deepest g e r) where
-  abbrev left : model.Level ℕ ℕ
+  abbrev left : model.Level ℕ Tally
   left = joined deepest (g .upper) (g .lower)
 
   pub points-small : r .points ≤ 65535
@@ -78,7 +79,7 @@ module _ (g : Store) (e l : List ℕ) (laid : Laid g e l) (i : ℕ) (deep : i < 
   -- The table holds the two levels that the code has read.
   pub pair-held : (upper lower : Level) → upper ≡ level-at l i → lower ≡ level-at l (i + 1) → LevelsHeld (pair g i) e upper lower
   pair-held upper lower u w =
-      let p : State ℕ ℕ = g .state in
+      let p : State ℕ Tally = g .state in
       let chains : AllChained (g .slots) e (level-chains (p .levels)) = laid .entries .each .1 in
       record {
         held = record {
@@ -115,7 +116,7 @@ module _ (g : Store) (e l : List ℕ) (laid : Laid g e l) (i : ℕ) (deep : i < 
   merged-formed : Formed (g .slots) (timed (g .time) (merge-state i (g .state)))
   unfolding merge-state
   merged-formed =
-      let p : State ℕ ℕ = timed (g .time) (g .state) in
+      let p : State ℕ Tally = timed (g .time) (g .state) in
       at-formed (g .slots) (g .time) p (merge-state i p) (laid .formed)
       (merge-at (g .time) p i p deep (formed-at (g .slots) (g .time) p (omega arith) (laid .formed))) refl
 
@@ -124,7 +125,7 @@ module _ (g : Store) (e l : List ℕ) (laid : Laid g e l) (i : ℕ) (deep : i < 
       → Laid (at-state g (merge-state i (g .state))) e′ (set-row (set-row l i no-row) (i + 1) (row-at r))
   unfolding merge-state
   merged-laid e′ r j =
-      let p : State ℕ ℕ = g .state in
+      let p : State ℕ Tally = g .state in
       let cs = j .held .holds .each in
       record {
         formed = merged-formed;

@@ -6,6 +6,7 @@ use native.Mathlib.Omega.{arith}
 use native.Mathlib.Numerals.{add-one}
 use Rattle.lists.specs.Lists.{iterate}
 use Rattle.lists.proofs.Loops.{iterate-end, iterate-next}
+use Rattle.model.specs.declared.Tally.{Tally}
 use Rattle.model.specs.Records.{State}
 use Rattle.model.specs.Steps.{Work, begin, merge-state, merge-level, merge-all}
 use Rattle.model.proofs.Counted.{add, merge-level-adds}
@@ -13,34 +14,34 @@ use Rattle.model.proofs.Numbers.{merge-level-merges}
 use Rattle.merge_levels.specs.Laid.{Store, Laid, at-state, Worked}
 
 abbrev pub Step : Type 0
-Step = ℕ → Work ℕ ℕ → Work ℕ ℕ
+Step = ℕ → Work ℕ Tally → Work ℕ Tally
 
 -- Merges counted before have no part in what a step does; it counts one more at most.
 pub record Counts (step : Step) : Type 0 where
-  pub adds : (k i : ℕ) (w : Work ℕ ℕ) → step i (add k w) ≡ add k (step i w)
-  pub one : (i : ℕ) (w : Work ℕ ℕ) → step i w .merges ≤ w .merges + 1
-  pub settings : (i : ℕ) (s : State ℕ ℕ) → step i (begin s) .state .settings ≡ s .settings
+  pub adds : (k i : ℕ) (w : Work ℕ Tally) → step i (add k w) ≡ add k (step i w)
+  pub one : (i : ℕ) (w : Work ℕ Tally) → step i w .merges ≤ w .merges + 1
+  pub settings : (i : ℕ) (s : State ℕ Tally) → step i (begin s) .state .settings ≡ s .settings
 
 pub merge-counts : Counts merge-level
 unfolding merge-level merge-state
 merge-counts = record { adds = λ k i w. merge-level-adds k i w; one = merge-level-merges; settings = λ i s. refl }
 
 -- So a step on some work is the step on its state, with the merges before it.
-step-after : (step : Step) → Counts step → (i : ℕ) (w : Work ℕ ℕ) → step i w ≡ add (w .merges) (step i (begin (w .state)))
+step-after : (step : Step) → Counts step → (i : ℕ) (w : Work ℕ Tally) → step i w ≡ add (w .merges) (step i (begin (w .state)))
 step-after step counts i w =
     let none : w .merges + 0 ≡ w .merges = omega arith in
     ap (λ (m : ℕ). step i (record { state = w .state; merges = m })) (sym none) ∙ counts .adds (w .merges) i (begin (w .state))
 
 -- Before level i: the tables hold a work from which the steps from i to L−1 lead to the goal.
-pub record Reached (step : Step) (goal : Work ℕ ℕ) (g : Store) (e l : List ℕ) (merges i : ℕ) : Type 0 where
-  pub work : Work ℕ ℕ
+pub record Reached (step : Step) (goal : Work ℕ Tally) (g : Store) (e l : List ℕ) (merges i : ℕ) : Type 0 where
+  pub work : Work ℕ Tally
   pub worked : Worked g work e l merges
   pub settings : work .state .settings ≡ g .state .settings
   pub few : merges ≤ i
   pub here : i ≤ g .state .settings .deepest
   pub leads : iterate step i (g .state .settings .deepest - i) work ≡ goal
 
-module _ {step : Step} {goal : Work ℕ ℕ} {g : Store} {e l : List ℕ} {merges i : ℕ} where
+module _ {step : Step} {goal : Work ℕ Tally} {g : Store} {e l : List ℕ} {merges i : ℕ} where
   -- The store whose tables these are.
   abbrev pub reached-store : Reached step goal g e l merges i → Store
   reached-store w = at-state g (w .work .state)
@@ -60,7 +61,7 @@ module _ {step : Step} {goal : Work ℕ ℕ} {g : Store} {e l : List ℕ} {merge
         record {
           work = step i (w .work);
           worked = rw after (record { laid = done .laid; counts = omega (arith, w .worked .counts, done .counts) });
-          settings = ap (λ (x : Work ℕ ℕ). x .state .settings) after ∙ counts .settings i (w .work .state) ∙ w .settings;
+          settings = ap (λ (x : Work ℕ Tally). x .state .settings) after ∙ counts .settings i (w .work .state) ∙ w .settings;
           few = few-more;
           here = omega arith;
           leads = sym (iterate-next step (g .state .settings .deepest) i (w .work) (i + 1) h (add-one i)) ∙ w .leads;

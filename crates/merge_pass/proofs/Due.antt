@@ -11,6 +11,7 @@ use Rattle.settings.specs.declared.Settings.{Settings}
 use Rattle.settings.specs.Limits.{capacity, limit}
 use Rattle.settings.specs.Checked.{inner}
 use Rattle.settings.proofs.Allowed.{inner-true}
+use Rattle.model.specs.declared.Tally.{Tally}
 use Rattle.model.specs.Records.{Level, level}
 use Rattle.model.specs.Steps.{buffer-due, due}
 use Rattle.tables.specs.Rows.{settings-of, Row, level-row}
@@ -30,7 +31,7 @@ module _ (settings : Settings) (t i : ℕ) (r : Row) where
   due-owing h z = rw (le-ltb (capacity settings i) (r .held) h, ne-eqb (r .owed) 0 z)
 
 -- A level's row tells whether the level is due.
-row-due : (settings : Settings) (t i : ℕ) (v : Level ℕ ℕ) → due-row settings t i (row-of-level v) ≡ due settings t i v
+row-due : (settings : Settings) (t i : ℕ) (v : Level ℕ Tally) → due-row settings t i (row-of-level v) ≡ due settings t i v
 unfolding due
 row-due settings t i v = refl
 

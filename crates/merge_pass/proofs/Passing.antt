@@ -4,6 +4,7 @@ use mathlib.Core.Bool.{Bool, true, false, cond}
 use mathlib.Core.List.{List}
 use Prim.Native.Nat.{ℕ, _≤_}
 use native.Mathlib.Omega.{arith}
+use Rattle.model.specs.declared.Tally.{Tally}
 use Rattle.model.specs.Records.{State, level}
 use Rattle.model.specs.Steps.{Work, begin, merge-level, buffer-due, due, pass-buffer, pass-level, pass}
 use Rattle.model.proofs.Counted.{pass-level-adds}
@@ -13,7 +14,7 @@ use Rattle.merge_levels.proofs.Turns.{Counts, merge-counts, Reached}
 
 -- A level that is merged if a test holds: what follows where it fails, and where it holds.
 module _ (test : Bool) (i : ℕ) (g : Store) (e l : List ℕ) where
-  abbrev merged-if : Work ℕ ℕ
+  abbrev merged-if : Work ℕ Tally
   merged-if = cond test (merge-level i (begin (g .state))) (begin (g .state))
 
   unmerged : test ≡ false → Laid g e l → Worked g merged-if e l 0
@@ -42,7 +43,7 @@ module _ (g : Store) (e l : List ℕ) where
   level-merged t i q w = merged (due (g .state .settings) t i (level i (g .state))) i g e l q w
 
 -- Merged or not, the settings stay.
-same-settings : (test : Bool) (i : ℕ) (s : State ℕ ℕ) → cond test (merge-level i (begin s)) (begin s) .state .settings ≡ s .settings
+same-settings : (test : Bool) (i : ℕ) (s : State ℕ Tally) → cond test (merge-level i (begin s)) (begin s) .state .settings ≡ s .settings
 same-settings true i s = merge-counts .settings i s
 same-settings false i s = refl
 

@@ -1,5 +1,6 @@
 -- The ● cases of document 01, proved as one table, the near misses and other edges as a second, and the ways of demand 3's premises as a third.
 use mathlib.Core.Path.{_≡_, refl, ap}
+use mathlib.Core.Logic.{_≢_}
 use mathlib.Core.List.{[], _∷_}
 use Prim.Native.Nat.{ℕ}
 use native.Mathlib.Omega.{arith}
@@ -7,6 +8,7 @@ use lib.Dec.{lit<, lit≤}
 use Rattle.lists.specs.Lists.{any, select, sum, merge, iterate}
 use Rattle.settings.specs.Limits.{power, capacity, limit}
 use Rattle.settings.proofs.Limits.{limit-last}
+use Rattle.model.specs.declared.Tally.{Tally}
 use Rattle.model.specs.Records.{Entry, value, tombstone, Point, State, fresh}
 use Rattle.model.specs.Coverage.{over, covers}
 use Rattle.model.specs.Merge.{later, merged, settled, joined, freed}
@@ -40,6 +42,8 @@ cases = record {
   later-of-both = refl;
   judged-first = refl;
   acted-up-to-the-date = refl;
+  priced = refl;
+  priced-anew = refl;
   script = refl;
   first-lookup = refl;
   second-lookup = refl;
@@ -65,46 +69,47 @@ near-misses = record {
   merge-reveals-the-later = refl;
 }
 
--- All tallies of a state, added.
-tallies : State (Unit {0}) ℕ → ℕ
-tallies s = sum tally (all-points (s .levels))
+-- A part of all tallies of a state, added.
+sums : (Tally → ℕ) → State (Unit {0}) Tally → ℕ
+sums part s = sum number (all-points (s .levels))
   where
-    tally : Point (Unit {0}) ℕ → ℕ
-    tally p = of (p .entry)
+    number : Point (Unit {0}) Tally → ℕ
+    number p = of (p .entry)
       where
-        of : Entry ℕ → ℕ
-        of (value v) = v
+        of : Entry Tally → ℕ
+        of (value a) = part a
         of tombstone = 0
 
--- States whose tallies add up to numbers that differ are different.
-apart : {s r : State (Unit {0}) ℕ} → ((tallies s ≡ tallies r) → ⊥) → s ≡ r → ⊥
-apart h e = h (ap tallies e)
+-- States whose counts, and states whose prices, add up to numbers that differ are different.
+apart : {s r t : State (Unit {0}) Tally} → ((sums (λ a. a .count) s ≡ sums (λ a. a .count) r) → ⊥) → ((sums (λ a. a .price) s ≡ sums (λ a. a .price) t) → ⊥)
+    → (s ≢ r) × (s ≢ t)
+apart c p = (λ e. c (ap (sums (λ a. a .count)) e), λ e. p (ap (sums (λ a. a .price)) e))
 
 pub ways : WayTable
-unfolding tallies any select over covers sum merge iterate power capacity limit fresh later merged settled joined freed single merge-state merge-level merge-all
+unfolding sums any select over covers sum merge iterate power capacity limit fresh later merged settled joined freed single merge-state merge-level merge-all
     enter-at enter set-points wipe act-deepest crowded make-room full write no-slot buffer-due due pass-buffer pass-level pass still-due prepared finish step
     run accepted pass-merges merges-buffer merged-in
 ways = record {
-  own-pass = λ v. record { is-put = refl; after = lit< tt; write = delete 5; is-write = refl; covers = refl; accept = refl; fate = refl; term = lit≤ tt };
-  later-pass = λ v. record { is-put = refl; after = lit< tt; write = delete 5; is-write = refl; covers = refl; accept = refl; fate = refl; term = lit≤ tt };
-  later-flush = λ v. record { is-put = refl; after = lit< tt; write = delete 5; is-write = refl; covers = refl; accept = refl; fate = refl; term = lit≤ tt };
-  later-room = λ v. record { is-put = refl; after = lit< tt; write = delete 5; is-write = refl; covers = refl; accept = refl; fate = refl; term = lit≤ tt };
-  later-full = λ v. record { is-put = refl; after = lit< tt; write = delete 5; is-write = refl; covers = refl; accept = refl; fate = refl; term = lit≤ tt };
-  acted = λ v. record { is-put = refl; after = lit< tt; write = delete 5; is-write = refl; covers = refl; accept = refl; fate = refl; term = lit≤ tt };
-  range = λ v. record { is-put = refl; after = lit< tt; write = delete-range 4 6 2; is-write = refl; covers = refl; accept = refl; fate = refl; term = lit≤ tt };
-  hidden = λ v. record { is-put = refl; after = lit< tt; write = delete-range 4 6 1; is-write = refl; covers = refl; accept = refl; fate = refl; term = lit≤ tt };
-  dated-acted = λ v. record { is-put = refl; after = lit< tt; write = delete-range 4 6 1; is-write = refl; covers = refl; accept = refl; fate = refl; term = lit≤ tt };
-  refused-put = λ v. record { is-put = refl; after = lit< tt; write = delete 5; is-write = refl; covers = refl; accept = refl; fate = refl; term = lit≤ tt };
-  full-put = λ v. record { is-put = refl; after = lit< tt; write = delete 5; is-write = refl; covers = refl; accept = refl; fate = refl; term = lit≤ tt };
-  later-put = λ v. record { is-put = refl; after = lit< tt; write = delete 5; is-write = refl; covers = refl; accept = refl; fate = refl; term = lit≤ tt };
-  later-put-range = λ v. record { is-put = refl; after = lit< tt; write = delete-range 4 6 2; is-write = refl; covers = refl; accept = refl; fate = refl; term = lit≤ tt };
-  before-entry = apart (λ (h : 120 ≡ 121). omega arith);
-  unmerged = apart (λ (h : 50 ≡ 51). omega arith);
-  too-early = apart (λ (h : 180 ≡ 181). omega arith);
-  refused-delete = apart (λ (h : 50 ≡ 51). omega arith);
-  other-docket = apart (λ (h : 50 ≡ 51). omega arith);
-  delete-first = apart (λ (h : 50 ≡ 51). omega arith);
-  after-the-date = apart (λ (h : 50 ≡ 51). omega arith);
-  term-from-the-date = apart (λ (h : 180 ≡ 181). omega arith);
-  hidden-alone = apart (λ (h : 231 ≡ 232). omega arith);
+  own-pass = λ v p. record { is-put = refl; after = lit< tt; write = delete 5; is-write = refl; covers = refl; accept = refl; fate = refl; term = lit≤ tt };
+  later-pass = λ v p. record { is-put = refl; after = lit< tt; write = delete 5; is-write = refl; covers = refl; accept = refl; fate = refl; term = lit≤ tt };
+  later-flush = λ v p. record { is-put = refl; after = lit< tt; write = delete 5; is-write = refl; covers = refl; accept = refl; fate = refl; term = lit≤ tt };
+  later-room = λ v p. record { is-put = refl; after = lit< tt; write = delete 5; is-write = refl; covers = refl; accept = refl; fate = refl; term = lit≤ tt };
+  later-full = λ v p. record { is-put = refl; after = lit< tt; write = delete 5; is-write = refl; covers = refl; accept = refl; fate = refl; term = lit≤ tt };
+  acted = λ v p. record { is-put = refl; after = lit< tt; write = delete 5; is-write = refl; covers = refl; accept = refl; fate = refl; term = lit≤ tt };
+  range = λ v p. record { is-put = refl; after = lit< tt; write = delete-range 4 6 2; is-write = refl; covers = refl; accept = refl; fate = refl; term = lit≤ tt };
+  hidden = λ v p. record { is-put = refl; after = lit< tt; write = delete-range 4 6 1; is-write = refl; covers = refl; accept = refl; fate = refl; term = lit≤ tt };
+  dated-acted = λ v p. record { is-put = refl; after = lit< tt; write = delete-range 4 6 1; is-write = refl; covers = refl; accept = refl; fate = refl; term = lit≤ tt };
+  refused-put = λ v p. record { is-put = refl; after = lit< tt; write = delete 5; is-write = refl; covers = refl; accept = refl; fate = refl; term = lit≤ tt };
+  full-put = λ v p. record { is-put = refl; after = lit< tt; write = delete 5; is-write = refl; covers = refl; accept = refl; fate = refl; term = lit≤ tt };
+  later-put = λ v p. record { is-put = refl; after = lit< tt; write = delete 5; is-write = refl; covers = refl; accept = refl; fate = refl; term = lit≤ tt };
+  later-put-range = λ v p. record { is-put = refl; after = lit< tt; write = delete-range 4 6 2; is-write = refl; covers = refl; accept = refl; fate = refl; term = lit≤ tt };
+  before-entry = apart (λ (h : 120 ≡ 121). omega arith) (λ (h : 10 ≡ 11). omega arith);
+  unmerged = apart (λ (h : 50 ≡ 51). omega arith) (λ (h : 3 ≡ 4). omega arith);
+  too-early = apart (λ (h : 180 ≡ 181). omega arith) (λ (h : 17 ≡ 18). omega arith);
+  refused-delete = apart (λ (h : 50 ≡ 51). omega arith) (λ (h : 3 ≡ 4). omega arith);
+  other-docket = apart (λ (h : 50 ≡ 51). omega arith) (λ (h : 3 ≡ 4). omega arith);
+  delete-first = apart (λ (h : 50 ≡ 51). omega arith) (λ (h : 3 ≡ 4). omega arith);
+  after-the-date = apart (λ (h : 50 ≡ 51). omega arith) (λ (h : 3 ≡ 4). omega arith);
+  term-from-the-date = apart (λ (h : 180 ≡ 181). omega arith) (λ (h : 17 ≡ 18). omega arith);
+  hidden-alone = apart (λ (h : 231 ≡ 232). omega arith) (λ (h : 24 ≡ 25). omega arith);
 }

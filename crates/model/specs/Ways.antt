@@ -1,58 +1,60 @@
--- Demand 3's premises, worked: a list for each way in which they are met, and beside it lists that lack one of them, where the erased tally still stands.
+-- Demand 3's premises, worked: a list for each way in which they are met, and beside it lists that lack one of them, where the erased tally, count and price, still stands.
 use mathlib.Core.Logic.{_≢_}
 use mathlib.Core.List.{List, [], _∷_}
 use Prim.Native.Nat.{ℕ}
+use Rattle.model.specs.declared.Tally.{Tally}
 use Rattle.model.specs.Records.{State}
 use Rattle.model.specs.Calls.{Call, run}
 use Rattle.model.specs.Erasure.{Erased}
-use Rattle.model.specs.Cases.{settings, store, P, D, R, Y, F, T}
+use Rattle.model.specs.Cases.{settings, store, tally, P, D, R, Y, F, T}
 
--- Lists that differ in one tally, v.
+-- Lists that differ in one tally, of count v and price p.
 abbrev pub Twins : Type 0
-Twins = ℕ → List (Call ℕ)
+Twins = ℕ → ℕ → List (Call Tally)
 
 -- The put of docket 5 at place i is covered by the delete at place j, and every premise holds, whatever its tally.
-abbrev pub Meets : State (Unit {0}) ℕ → Twins → ℕ → ℕ → Type 0
-Meets s twins i j = (v : ℕ) → Erased s (twins v) i j 5 v
+abbrev pub Meets : State (Unit {0}) Tally → Twins → ℕ → ℕ → Type 0
+Meets s twins i j = (v p : ℕ) → Erased s (twins v p) i j 5 (tally v p)
 
-abbrev pub Differ : State (Unit {0}) ℕ → Twins → Type 0
-Differ s twins = run s (twins 50) ≢ run s (twins 51)
+-- The count still stands, and so does the price.
+abbrev pub Differ : State (Unit {0}) Tally → Twins → Type 0
+Differ s twins = (run s (twins 50 3) ≢ run s (twins 51 3)) × (run s (twins 50 3) ≢ run s (twins 50 4))
 
 -- L = 2, T = 2 and D = 4: n slots, and a buffer that is merged at b records.
-abbrev pub small : ℕ → ℕ → State (Unit {0}) ℕ
+abbrev pub small : ℕ → ℕ → State (Unit {0}) Tally
 small n b = store n (settings 2 2 b 4)
 
 pub record WayTable : Type 0 where
   -- "in the pass of the delete's own call"
-  pub own-pass : Meets (small 6 1) (λ v. P 1 5 v ∷ D 2 5 ∷ T 6 ∷ []) 0 1
+  pub own-pass : Meets (small 6 1) (λ v p. P 1 5 v p ∷ D 2 5 ∷ T 6 ∷ []) 0 1
   -- "or in any later call of the list": its pass, a flush, a write that has to make room, "a put refused 7 included"
-  pub later-pass : Meets (small 6 2) (λ v. P 1 5 v ∷ F 1 ∷ D 2 5 ∷ P 3 6 60 ∷ T 6 ∷ []) 0 2
-  pub later-flush : Meets (small 6 3) (λ v. P 1 5 v ∷ F 1 ∷ D 2 5 ∷ F 3 ∷ T 6 ∷ []) 0 2
-  pub later-room : Meets (small 2 3) (λ v. P 1 5 v ∷ F 1 ∷ D 2 5 ∷ P 3 6 60 ∷ T 6 ∷ []) 0 2
-  pub later-full : Meets (small 2 3) (λ v. P 1 5 v ∷ D 2 5 ∷ P 3 5 50 ∷ P 3 6 60 ∷ P 4 7 70 ∷ T 6 ∷ []) 0 1
+  pub later-pass : Meets (small 6 2) (λ v p. P 1 5 v p ∷ F 1 ∷ D 2 5 ∷ P 3 6 60 7 ∷ T 6 ∷ []) 0 2
+  pub later-flush : Meets (small 6 3) (λ v p. P 1 5 v p ∷ F 1 ∷ D 2 5 ∷ F 3 ∷ T 6 ∷ []) 0 2
+  pub later-room : Meets (small 2 3) (λ v p. P 1 5 v p ∷ F 1 ∷ D 2 5 ∷ P 3 6 60 7 ∷ T 6 ∷ []) 0 2
+  pub later-full : Meets (small 2 3) (λ v p. P 1 5 v p ∷ D 2 5 ∷ P 3 5 50 7 ∷ P 3 6 60 7 ∷ P 4 7 70 7 ∷ T 6 ∷ []) 0 1
   -- "it acted on level L directly"
-  pub acted : Meets (small 1 3) (λ v. P 1 5 v ∷ F 1 ∷ D 2 5 ∷ T 6 ∷ []) 0 2
-  pub range : Meets (small 6 1) (λ v. P 1 5 v ∷ R 2 4 6 ∷ T 6 ∷ []) 0 1
+  pub acted : Meets (small 1 3) (λ v p. P 1 5 v p ∷ F 1 ∷ D 2 5 ∷ T 6 ∷ []) 0 2
+  pub range : Meets (small 6 1) (λ v p. P 1 5 v p ∷ R 2 4 6 ∷ T 6 ∷ []) 0 1
   -- Up to a date, which is the put's own clock: on level L under a newer put that hides it, and where the delete acts on level L.
-  pub hidden : Meets (small 6 1) (λ v. P 1 5 v ∷ P 1 6 60 ∷ P 1 7 70 ∷ P 2 5 51 ∷ Y 3 4 6 1 ∷ T 7 ∷ []) 0 4
-  pub dated-acted : Meets (small 1 3) (λ v. P 1 5 v ∷ F 1 ∷ Y 3 4 6 1 ∷ T 7 ∷ []) 0 2
+  pub hidden : Meets (small 6 1) (λ v p. P 1 5 v p ∷ P 1 6 60 7 ∷ P 1 7 70 7 ∷ P 2 5 51 7 ∷ Y 3 4 6 1 ∷ T 7 ∷ []) 0 4
+  pub dated-acted : Meets (small 1 3) (λ v p. P 1 5 v p ∷ F 1 ∷ Y 3 4 6 1 ∷ T 7 ∷ []) 0 2
   -- The put itself is refused, for its clock or for lack of a slot.
-  pub refused-put : Meets (small 6 1) (λ v. P 0 5 v ∷ D 2 5 ∷ T 6 ∷ []) 0 1
-  pub full-put : Meets (small 1 1) (λ v. P 1 6 60 ∷ P 1 5 v ∷ D 2 5 ∷ T 6 ∷ []) 1 2
+  pub refused-put : Meets (small 6 1) (λ v p. P 0 5 v p ∷ D 2 5 ∷ T 6 ∷ []) 0 1
+  pub full-put : Meets (small 1 1) (λ v p. P 1 6 60 7 ∷ P 1 5 v p ∷ D 2 5 ∷ T 6 ∷ []) 1 2
   -- So its clock can lie after that of a delete, or of a range delete "without a date".
-  pub later-put : Meets (small 1 1) (λ v. P 1 6 60 ∷ P 9 5 v ∷ D 2 5 ∷ T 6 ∷ []) 1 2
-  pub later-put-range : Meets (small 1 1) (λ v. P 1 6 60 ∷ P 9 5 v ∷ R 2 4 6 ∷ T 6 ∷ []) 1 2
+  pub later-put : Meets (small 1 1) (λ v p. P 1 6 60 7 ∷ P 9 5 v p ∷ D 2 5 ∷ T 6 ∷ []) 1 2
+  pub later-put-range : Meets (small 1 1) (λ v p. P 1 6 60 7 ∷ P 9 5 v p ∷ R 2 4 6 ∷ T 6 ∷ []) 1 2
   -- Level 0 is merged in the delete's own call, but only to make room, before the delete's entry.
-  pub before-entry : Differ (small 3 4) (λ v. P 1 5 v ∷ F 1 ∷ P 1 6 60 ∷ D 1 6 ∷ P 1 7 70 ∷ D 2 5 ∷ T 6 ∷ [])
+  pub before-entry : Differ (small 3 4) (λ v p. P 1 5 v p ∷ F 1 ∷ P 1 6 60 7 ∷ D 1 6 ∷ P 1 7 70 7 ∷ D 2 5 ∷ T 6 ∷ [])
   -- The delete waits in the buffer.
-  pub unmerged : Differ (small 6 3) (λ v. P 1 5 v ∷ F 1 ∷ D 2 5 ∷ T 6 ∷ [])
+  pub unmerged : Differ (small 6 3) (λ v p. P 1 5 v p ∷ F 1 ∷ D 2 5 ∷ T 6 ∷ [])
   -- One tick short of the term.
-  pub too-early : Differ (small 6 1) (λ v. P 1 5 v ∷ P 1 6 60 ∷ P 1 7 70 ∷ D 2 5 ∷ T 5 ∷ [])
+  pub too-early : Differ (small 6 1) (λ v p. P 1 5 v p ∷ P 1 6 60 7 ∷ P 1 7 70 7 ∷ D 2 5 ∷ T 5 ∷ [])
   -- The delete is refused, covers another docket, or came before the put.
-  pub refused-delete : Differ (small 6 1) (λ v. P 1 5 v ∷ D 0 5 ∷ T 6 ∷ [])
-  pub other-docket : Differ (small 6 1) (λ v. P 1 5 v ∷ D 2 6 ∷ T 6 ∷ [])
-  pub delete-first : Differ (small 6 1) (λ v. D 1 5 ∷ P 2 5 v ∷ T 6 ∷ [])
+  pub refused-delete : Differ (small 6 1) (λ v p. P 1 5 v p ∷ D 0 5 ∷ T 6 ∷ [])
+  pub other-docket : Differ (small 6 1) (λ v p. P 1 5 v p ∷ D 2 6 ∷ T 6 ∷ [])
+  pub delete-first : Differ (small 6 1) (λ v p. D 1 5 ∷ P 2 5 v p ∷ T 6 ∷ [])
   -- The put came after the date; the term has passed since the date, but not since the delete's clock; a newer put alone hides, and erases nothing.
-  pub after-the-date : Differ (small 6 1) (λ v. P 2 5 v ∷ Y 3 4 6 1 ∷ T 7 ∷ [])
-  pub term-from-the-date : Differ (small 6 1) (λ v. P 1 5 v ∷ P 1 6 60 ∷ P 1 7 70 ∷ Y 4 5 5 1 ∷ T 5 ∷ [])
-  pub hidden-alone : Differ (small 6 1) (λ v. P 1 5 v ∷ P 1 6 60 ∷ P 1 7 70 ∷ P 2 5 51 ∷ T 7 ∷ [])
+  pub after-the-date : Differ (small 6 1) (λ v p. P 2 5 v p ∷ Y 3 4 6 1 ∷ T 7 ∷ [])
+  pub term-from-the-date : Differ (small 6 1) (λ v p. P 1 5 v p ∷ P 1 6 60 7 ∷ P 1 7 70 7 ∷ Y 4 5 5 1 ∷ T 5 ∷ [])
+  pub hidden-alone : Differ (small 6 1) (λ v p. P 1 5 v p ∷ P 1 6 60 7 ∷ P 1 7 70 7 ∷ P 2 5 51 7 ∷ T 7 ∷ [])

@@ -6,7 +6,7 @@ use Rattle.model_history.specs.History.{came, earliest, history}
 
 pub record OwedTable : Type 0 where
   -- "A put over a delete hides it": the delete has come all the same.
-  pub hidden-delete : came (history deep (sunk ++ D 2 5 ∷ P 3 5 51 ∷ [])) 1 ≡ 2 ∷ []
+  pub hidden-delete : came (history deep (sunk ++ D 2 5 ∷ P 3 5 51 7 ∷ [])) 1 ≡ 2 ∷ []
   -- "A second delete of a docket that restarts the term": both have come, and the first is the earliest.
   pub second-delete : came (history deep (sunk ++ D 2 5 ∷ D 4 5 ∷ [])) 1 ≡ 4 ∷ 2 ∷ []
   pub first-counts : earliest (4 ∷ 2 ∷ []) ≡ 2

@@ -13,7 +13,7 @@ use Rattle.run_script.specs.Served.{Serving}
 use Rattle.run_script.specs.Turns.{stands}
 
 pub serves-on : (e l line input output : List ℕ) (m : Progress) (r : Served) → Ready e l line m
-    → (r .slots ≡ m .slots) × (r .deepest ≡ m .deepest) × (r .length ≡ m .length) → length input ≡ 8192 → length output ≡ 270336
+    → (r .slots ≡ m .slots) × (r .deepest ≡ m .deepest) × (r .length ≡ m .length) → length input ≡ 8192 → length output ≡ 360448
     → Serving e l line input output r
 serves-on e l line input output m r ready same input-room output-room = record {
   ready = record {

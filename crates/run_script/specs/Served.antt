@@ -20,4 +20,4 @@ begun = record { slots = 0; deepest = 0; length = 0; more = true }
 pub record Serving (e l line input output : List ℕ) (m : Served) : Type 0 where
   pub ready : Ready e l line (between m)
   pub input-room : length input ≡ 8192
-  pub output-room : length output ≡ 270336
+  pub output-room : length output ≡ 360448

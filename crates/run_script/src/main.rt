@@ -1,4 +1,4 @@
-// The script program of document 01: reads standard input and prints three numbers for each line.
+// The script program of document 01: reads standard input and prints three numbers for each line, four for a lookup.
 mod retry;
 
 use retry::read_block;
@@ -36,12 +36,12 @@ fn main() {
     );
 }
 
-// Words for 4,000 slots, all 0 as in the script's cases.
-fn entry_room() -> [u32; 16004]
-    ensures { λ r. ⌜ 16004 ≡ length r ⌝ }
-    ensures { λ r. ⌜ r ≡ replicate 16004 0 ⌝ }
+// Words for 3,275 slots, all 0 as in the script's cases.
+fn entry_room() -> [u32; 16380]
+    ensures { λ r. ⌜ 16380 ≡ length r ⌝ }
+    ensures { λ r. ⌜ r ≡ replicate 16380 0 ⌝ }
 {
-    [0; 16004]
+    [0; 16380]
 }
 
 // Words for six levels, likewise.
@@ -64,11 +64,11 @@ fn input_room() -> [u8; 8192]
     [0; 8192]
 }
 
-// A byte of input ends at most one line, which prints at most 33 bytes.
-fn output_room() -> [u8; 270336]
-    ensures { λ r. ⌜ 270336 ≡ length r ⌝ }
+// A byte of input ends at most one line, which prints at most 44 bytes.
+fn output_room() -> [u8; 360448]
+    ensures { λ r. ⌜ 360448 ≡ length r ⌝ }
 {
-    [0; 270336]
+    [0; 360448]
 }
 
 // Reads blocks until the input ends or the output is closed.

@@ -12,11 +12,12 @@ use Rattle.lists.proofs.Tests.{all-weaken}
 use Rattle.model.specs.Lookup as model
 use Rattle.model.specs.Lookup.{Found, absent, found, add-row, live-from, live, first-key}
 use Rattle.model.proofs.Scans.{live-listed}
-use Rattle.tables.specs.Placed.{read-state}
+use Rattle.tables.specs.Placed.{read-state, read-counts}
 use Rattle.scan.specs.declared.Row.{Row}
+use Rattle.scan.specs.declared.CountRow.{CountRow}
 use Rattle.scan.specs.declared.Scanned.{Scanned}
 use Rattle.check_refusal.specs.Dockets.{docket-refusal}
-use Rattle.scan.specs.Scan.{scan-tables}
+use Rattle.scan.specs.Scan.{scan-as, written, count-written, scan-tables, scan-counts-tables}
 use Rattle.check_refusal.proofs.Refusals.{dockets-refuse-low, allowed-high, allowed-order}
 
 module _ {A : Type 0} where
@@ -50,12 +51,19 @@ module _ {A : Type 0} where
 abbrev pub AnswerLow : Scanned → Type 0
 AnswerLow a = (a .count ≤ 65536) × (a .next ≤ 65535) × (a .refusal ≤ 4)
 
-pub answer-low : (e l : List ℕ) (lo hi : ℕ) (rows : List Row) → AnswerLow (scan-tables e l lo hi rows .answer)
-unfolding scan-tables
-answer-low e l lo hi rows = by-cases (eqb (docket-refusal e l lo hi) 0)
+pub low-as : {A R : Type 0} (written : model.Row A → R) (look : ℕ → Found A) (e l : List ℕ) (lo hi : ℕ) (rows : List R)
+    → AnswerLow (scan-as written (docket-refusal e l lo hi) look lo hi rows .answer)
+low-as written look e l lo hi rows = by-cases (eqb (docket-refusal e l lo hi) 0)
     (λ p.
     let z : docket-refusal e l lo hi ≡ 0 = eqb-true (docket-refusal e l lo hi) 0 p in
     let high : hi ≤ 65535 = allowed-high e l lo hi z in
-    let look : ℕ → Found ℕ = model.lookup (read-state e l .levels) in
     rw p (omega (arith, count-low look lo hi (length rows)), omega (arith, next-low look lo hi (length rows) (allowed-order e l lo hi z)), omega arith))
     (λ p. rw p (omega arith, omega arith, dockets-refuse-low e l lo hi))
+
+pub answer-low : (e l : List ℕ) (lo hi : ℕ) (rows : List Row) → AnswerLow (scan-tables e l lo hi rows .answer)
+unfolding scan-tables
+answer-low e l = low-as written (model.lookup (read-state e l .levels)) e l
+
+pub counts-low : (e l : List ℕ) (lo hi : ℕ) (rows : List CountRow) → AnswerLow (scan-counts-tables e l lo hi rows .answer)
+unfolding scan-counts-tables
+counts-low e l = low-as count-written (model.lookup (read-counts e l .levels)) e l

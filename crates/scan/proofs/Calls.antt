@@ -31,15 +31,14 @@ use denote.Triple.Call.{calls-at}
 use denote.Triple.Clauses.{ensured, lasts}
 use denote.Triple.Spec.{tripleOf}
 use denote.Triple.Walked.{says}
-use Rattle.scan.specs.declared.Row.{Row}
 use Rattle.scan_step.specs.declared.Sweep.{Sweep}
 use Rattle.scan.specs.declared.Scanned.{Scanned}
-use Rattle.scan_step.specs.Sweeps.{Sweeping, rest, rows-from}
+use Rattle.tables.specs.Slots.{InTable}
+use Rattle.scan_step.specs.Sweeps.{Sweeping, rest, row-found, rows-from}
 use Rattle.check_refusal.specs.Dockets.{docket-refusal}
-use Rattle.scan.specs.Scan.{Opened, row-at, has-row, closed}
+use Rattle.scan.specs.Sweeps.{Opened, has-row, closed}
 use Rattle.scan_step.proofs.Sweep as S
 use Rattle.scan_step.proofs.Sweep.Laws as S′
-use Rattle.scan.proofs.Row as T
 use Rattle.scan.proofs.Scanned as C
 use Rattle.check_refusal.proofs.docket_refusal as refusal-fn
 use Rattle.check_refusal.proofs.docket_refusal.Symbol.{name as #dockets·docket-refusal}
@@ -47,12 +46,11 @@ use Rattle.scan.proofs.open as open-first
 use Rattle.scan.proofs.open.Symbol.{name as #scan·open}
 use Rattle.scan.proofs.goes_on as goes-on
 use Rattle.scan.proofs.goes_on.Symbol.{name as #scan·goes-on}
-use Rattle.scan.proofs.row_of as row-of
-use Rattle.scan.proofs.row_of.Symbol.{name as #scan·row-of}
 use Rattle.scan.proofs.next as next
 use Rattle.scan.proofs.next.Symbol.{name as #scan·next}
 use Rattle.scan.proofs.close as close
 use Rattle.scan.proofs.close.Symbol.{name as #scan·close}
+use Rattle.scan.proofs.Rows.{Rows, Filled, rowed, giving, gives, RowOf}
 
 -- a table's machine value, and what the two tables own
 abbrev pub table-at : RefT (List ℕ) → Val
@@ -86,21 +84,18 @@ module _ {M : Type 1} (𝓤 : URA M) (H : Heap 𝓤) (A : Atoms 𝓤) (at-mem : 
   abbrev pub GoesOn : Contract 𝓤
   GoesOn = tripleOf 𝓤 H A goes-on.signature (goes-on.spec 𝓤 H A at-mem run)
 
-  abbrev pub RowOf : Contract 𝓤
-  RowOf = tripleOf 𝓤 H A row-of.signature (row-of.spec 𝓤 H A at-mem run)
-
   abbrev pub Next : Contract 𝓤
   Next = tripleOf 𝓤 H A next.signature (next.spec 𝓤 H A at-mem run)
 
   abbrev pub Close : Contract 𝓤
   Close = tripleOf 𝓤 H A close.signature (close.spec 𝓤 H A at-mem run)
 
-  -- what is known of the callees: of each its contract
-  pub record Callees (𝓣 : Tables 𝓤 H) : Type 1 where
+  -- what is known of the callees: of each its contract; f gives a row
+  pub record Callees (R : Rows) (f : Name) (𝓣 : Tables 𝓤 H) : Type 1 where
     pub finds-refusal : Triple 𝓤 (𝓣 .C #dockets·docket-refusal) DocketRefusal
     pub open-first : Triple 𝓤 (𝓣 .C #scan·open) Open
     pub goes-on : Triple 𝓤 (𝓣 .C #scan·goes-on) GoesOn
-    pub row-of : Triple 𝓤 (𝓣 .C #scan·row-of) RowOf
+    pub row-of : Triple 𝓤 (𝓣 .C f) (RowOf R 𝓤 H A)
     pub next : Triple 𝓤 (𝓣 .C #scan·next) Next
     pub close : Triple 𝓤 (𝓣 .C #scan·close) Close
 
@@ -108,14 +103,14 @@ module _ {M : Type 1} (𝓤 : URA M) (H : Heap 𝓤) (A : Atoms 𝓤) (at-mem : 
   abbrev pub goes-on-call : Sweep → Val → ℕ → ℕ → GoesOn .Ghost
   goes-on-call m u i n = ((tt, tt, tt, (m, (i, (n, tt))), (u ∷ [], (vint w64 i ∷ [], (vint w64 n ∷ [], tt)))), tt)
 
-  abbrev pub row-of-call : Sweep → Val → RowOf .Ghost
-  row-of-call m u = ((tt, tt, tt, (m, tt), (u ∷ [], tt)), tt)
-
   abbrev pub close-call : Sweep → Val → ℕ → ℕ → Val → Close .Ghost
   close-call m u i r w = ((tt, tt, tt, (m, (i, (r, tt))), (u ∷ [], (vint w64 i ∷ [], (w ∷ [], tt)))), tt)
 
   abbrev pub next-call : Lft → Share → RefT (List ℕ) → Sweep → Val → Next .Ghost
   next-call κ q e m u = (((κ, tt), (q, tt), tt, (e, (m, tt)), (table-at e ∷ [], (u ∷ [], tt))), tt)
+
+  abbrev pub row-of-call : (R : Rows) → Lft → Share → RefT (List ℕ) → Sweep → Val → RowOf R 𝓤 H A .Ghost
+  row-of-call R κ q e m u = (((κ, tt), (q, tt), tt, (e, (m, tt)), (table-at e ∷ [], (u ∷ [], tt))), tt)
 
   abbrev pub docket-refusal-call : Lft → Lft → Share → Share → RefT (List ℕ) → RefT (List ℕ) → ℕ → ℕ → DocketRefusal .Ghost
   docket-refusal-call κ₁ κ₂ q₁ q₂ e l lo hi = (
@@ -145,14 +140,14 @@ module _ {M : Type 1} (𝓤 : URA M) (H : Heap 𝓤) (A : Atoms 𝓤) (at-mem : 
   abbrev pub goes-on-asks : Sweep → Val → ℕ → ℕ → Item 𝓤
   goes-on-asks m u i n = raw (GoesOn .pre (goes-on-call m u i n))
 
-  abbrev pub row-of-asks : Sweep → Val → Item 𝓤
-  row-of-asks m u = raw (RowOf .pre (row-of-call m u))
-
   abbrev pub close-asks : Sweep → Val → ℕ → ℕ → Val → Item 𝓤
   close-asks m u i r w = raw (Close .pre (close-call m u i r w))
 
   abbrev pub next-asks : Lft → Share → RefT (List ℕ) → Sweep → Val → Item 𝓤
   next-asks κ q e m u = raw (Next .pre (next-call κ q e m u))
+
+  abbrev pub row-of-asks : Rows → Lft → Share → RefT (List ℕ) → Sweep → Val → Item 𝓤
+  row-of-asks R κ q e m u = raw (RowOf R 𝓤 H A .pre (row-of-call R κ q e m u))
 
   abbrev pub docket-refusal-asks : Lft → Lft → Share → Share → RefT (List ℕ) → RefT (List ℕ) → ℕ → ℕ → Item 𝓤
   docket-refusal-asks κ₁ κ₂ q₁ q₂ e l lo hi = raw (DocketRefusal .pre (docket-refusal-call κ₁ κ₂ q₁ q₂ e l lo hi))
@@ -178,9 +173,6 @@ module _ {M : Type 1} (𝓤 : URA M) (H : Heap 𝓤) (A : Atoms 𝓤) (at-mem : 
         owned ! usize (Is usize) word-made i _ (refl, a) $ fjoin ! $
         owned ! S.the-row (Is S.the-row) sweep-made m _ is $ fjoin ! $ nothing ! $ join ! $ done !
 
-    row-of-asked : (m : Sweep) (u : Val) → Is S.the-row m (u ∷ []) → ent 𝓤 (emp 𝓤) (RowOf .pre (row-of-call m u))
-    row-of-asked m u is = qed W [] ∵ nothing ! $ nothing ! $ owned ! S.the-row (Is S.the-row) sweep-made m _ is $ fjoin ! $ nothing ! $ join ! $ done !
-
     close-asked : (m : Sweep) (u : Val) (i r : ℕ) (w : Val) → Is S.the-row m (u ∷ []) → i < 2 ^ 64 → Is u32 r (w ∷ [])
         → ent 𝓤 (emp 𝓤) (Close .pre (close-call m u i r w))
     close-asked m u i r w is a b =
@@ -191,6 +183,12 @@ module _ {M : Type 1} (𝓤 : URA M) (H : Heap 𝓤) (A : Atoms 𝓤) (at-mem : 
         → ent 𝓤 (sep 𝓤 (A .lft κ q) (sem 𝓤 H A (Entries κ e))) (Next .pre (next-call κ q e m u))
     next-asked κ q e m u is s =
         qed W (‵ (flft κ q) ∷ ‵ (Entries κ e) ∷ []) ∵ says ! s $ nothing ! $ move ! (1 ∷ 0 ∷ []) $ join ! $ frame ! $
+        nothing ! $ owned ! S.the-row (Is S.the-row) sweep-made m _ is $ fjoin ! $ move ! (1 ∷ 0 ∷ []) $ fjoin ! $ done !
+
+    row-of-asked : (R : Rows) (κ : Lft) (q : Share) (e : RefT (List ℕ)) (m : Sweep) (u : Val) → Is S.the-row m (u ∷ []) → InTable (e .now) (m .slot)
+        → ent 𝓤 (sep 𝓤 (A .lft κ q) (sem 𝓤 H A (Entries κ e))) (RowOf R 𝓤 H A .pre (row-of-call R κ q e m u))
+    row-of-asked R κ q e m u is inside =
+        qed W (‵ (flft κ q) ∷ ‵ (Entries κ e) ∷ []) ∵ says ! inside $ nothing ! $ move ! (1 ∷ 0 ∷ []) $ join ! $ frame ! $
         nothing ! $ owned ! S.the-row (Is S.the-row) sweep-made m _ is $ fjoin ! $ move ! (1 ∷ 0 ∷ []) $ fjoin ! $ done !
 
     entries-twice : (κ : Lft) (e : RefT (List ℕ)) → ent 𝓤 (sem 𝓤 H A (Entries κ e)) (sep 𝓤 (sem 𝓤 H A (Entries κ e)) (sem 𝓤 H A (Entries κ e)))
@@ -252,40 +250,30 @@ follows 𝓤 H A e m m′ =
 
 -- ---- the calls. A callee that takes plain data finds what it asks at the head of the context, before the operands are read;
 -- one that reads the tables finds it in the place of the token
-module _ {M : Type 1} {𝓤 : URA M} {H : Heap 𝓤} {A : Atoms 𝓤} {at-mem : Memory → SProp 𝓤} {run : Routine → Fun 𝓤} {𝓣 : Tables 𝓤 H}
+module _ {M : Type 1} {𝓤 : URA M} {H : Heap 𝓤} {A : Atoms 𝓤} {at-mem : Memory → SProp 𝓤} {run : Routine → Fun 𝓤} {R : Rows} {f : Name} {𝓣 : Tables 𝓤 H}
     {K : Type 0} {W : Given 𝓤 H A} {Γ : List (Item 𝓤)} {En : Env 𝓤 H} {xs : List Operand} {d : Place} {b : Body} {q : Post 𝓤 H} where
-  pub calls-goes-on : K → (known : Callees 𝓤 H A at-mem run 𝓣) (m : Sweep) (u : Val) (i n : ℕ) → Is S.the-row m (u ∷ []) → i < 2 ^ 64 → n < 2 ^ 64
+  pub calls-goes-on : K → (known : Callees 𝓤 H A at-mem run R f 𝓣) (m : Sweep) (u : Val) (i n : ℕ) → Is S.the-row m (u ∷ []) → i < 2 ^ 64 → n < 2 ^ 64
       → Opds K W (goes-on-asks 𝓤 H A at-mem run m u i n ∷ Γ) En xs (u ∷ vint w64 i ∷ vint w64 n ∷ [])
       → ((v : Val) (t : Bool) → Is bool t (v ∷ []) → t ≡ has-row m i n → Goes K W 𝓣 En d b q v Γ) → Comes K W 𝓣 En xs d b q #scan·goes-on Γ
-  calls-goes-on t known m u i n is f g os k =
-      use0 W (goes-on-asks 𝓤 H A at-mem run m u i n) (goes-on-asked 𝓤 H A at-mem run W m u i n is f g) $
+  calls-goes-on t known m u i n is low high os k =
+      use0 W (goes-on-asks 𝓤 H A at-mem run m u i n) (goes-on-asked 𝓤 H A at-mem run W m u i n is low high) $
       calls-at t (fmOf 𝓤 H (W .laws) 𝓣) (GoesOn 𝓤 H A at-mem run) (known .goes-on) (goes-on-call 𝓤 H A at-mem run m u i n) os (λ v.
       told t tt (‵ ftrue) bool (ensured 𝓤 H A goes-on.ended (goes-on.clauses 𝓤 H A at-mem run) tt (m, (i, (n, tt))) tt)
       (λ r. r ≡ has-row m i n) (λ r. tells 𝓤 H A (lasts goes-on.ended tt (m, (i, (n, tt)))) (r ≡ has-row m i n)) v
       (λ r is′ e. drop t $ k v r is′ e))
 
-  pub calls-row-of : K → (known : Callees 𝓤 H A at-mem run 𝓣) (m : Sweep) (u : Val) → Is S.the-row m (u ∷ [])
-      → Opds K W (row-of-asks 𝓤 H A at-mem run m u ∷ Γ) En xs (u ∷ [])
-      → ((v : Val) (r : Row) → Is T.the-row r (v ∷ []) → r ≡ row-at m → Goes K W 𝓣 En d b q v Γ) → Comes K W 𝓣 En xs d b q #scan·row-of Γ
-  calls-row-of t known m u is os k =
-      use0 W (row-of-asks 𝓤 H A at-mem run m u) (row-of-asked 𝓤 H A at-mem run W m u is) $
-      calls-at t (fmOf 𝓤 H (W .laws) 𝓣) (RowOf 𝓤 H A at-mem run) (known .row-of) (row-of-call 𝓤 H A at-mem run m u) os (λ v.
-      told t tt (‵ ftrue) T.the-row (ensured 𝓤 H A row-of.ended (row-of.clauses 𝓤 H A at-mem run) tt (m, tt) tt)
-      (λ r. r ≡ row-at m) (λ r. tells 𝓤 H A (lasts row-of.ended tt (m, tt)) (r ≡ row-at m)) v
-      (λ r is′ e. drop t $ k v r is′ e))
-
-  pub calls-close : K → (known : Callees 𝓤 H A at-mem run 𝓣) (m : Sweep) (u : Val) (i r : ℕ) (w : Val)
+  pub calls-close : K → (known : Callees 𝓤 H A at-mem run R f 𝓣) (m : Sweep) (u : Val) (i r : ℕ) (w : Val)
       → Is S.the-row m (u ∷ []) → i < 2 ^ 64 → Is u32 r (w ∷ [])
       → Opds K W (close-asks 𝓤 H A at-mem run m u i r w ∷ Γ) En xs (u ∷ vint w64 i ∷ w ∷ [])
       → ((v : Val) (a : Scanned) → Is C.the-row a (v ∷ []) → a ≡ closed m i r → Goes K W 𝓣 En d b q v Γ) → Comes K W 𝓣 En xs d b q #scan·close Γ
-  calls-close t known m u i r w is f g os k =
-      use0 W (close-asks 𝓤 H A at-mem run m u i r w) (close-asked 𝓤 H A at-mem run W m u i r w is f g) $
+  calls-close t known m u i r w is low number os k =
+      use0 W (close-asks 𝓤 H A at-mem run m u i r w) (close-asked 𝓤 H A at-mem run W m u i r w is low number) $
       calls-at t (fmOf 𝓤 H (W .laws) 𝓣) (Close 𝓤 H A at-mem run) (known .close) (close-call 𝓤 H A at-mem run m u i r w) os (λ v.
       told t tt (‵ ftrue) C.the-row (ensured 𝓤 H A close.ended (close.clauses 𝓤 H A at-mem run) tt (m, (i, (r, tt))) tt)
       (λ a. a ≡ closed m i r) (λ a. tells 𝓤 H A (lasts close.ended tt (m, (i, (r, tt)))) (a ≡ closed m i r)) v
       (λ a is′ e. drop t $ k v a is′ e))
 
-  pub calls-next : K → (known : Callees 𝓤 H A at-mem run 𝓣) {κ : Lft} {s : Share} (e : RefT (List ℕ)) (m : Sweep) (u : Val)
+  pub calls-next : K → (known : Callees 𝓤 H A at-mem run R f 𝓣) {κ : Lft} {s : Share} (e : RefT (List ℕ)) (m : Sweep) (u : Val)
       → Is S.the-row m (u ∷ []) → Sweeping (e .now) m
       → Opds K W (next-asks 𝓤 H A at-mem run κ s e m u ∷ ‵ (Entries κ e) ∷ Γ) En xs (table-at e ∷ u ∷ [])
       → ((v : Val) (m′ : Sweep) → Is S.the-row m′ (v ∷ []) → Sweeping (e .now) m′ → rows-from (e .now) m′ ≡ rest (e .now) m
@@ -299,16 +287,31 @@ module _ {M : Type 1} {𝓤 : URA M} {H : Heap 𝓤} {A : Atoms 𝓤} {at-mem : 
       (λ m′. exE 𝓤 _ (λ ws. via 𝓤 _ (snd∗ 𝓤 (sem 𝓤 H A (lasts next.ended (κ, tt) (e, (m, tt)) ws)) _) (follows 𝓤 H A e m m′))) v
       (λ m′ is′ h. split t $ move t (1 ∷ []) $ drop t $ k v m′ is′ (h .0) (h .1)))
 
+  pub calls-row-of : K → (known : Callees 𝓤 H A at-mem run R f 𝓣) {κ : Lft} {s : Share} (e : RefT (List ℕ)) (m : Sweep) (u : Val)
+      → Is S.the-row m (u ∷ []) → InTable (e .now) (m .slot)
+      → Opds K W (row-of-asks 𝓤 H A at-mem run R κ s e m u ∷ ‵ (Entries κ e) ∷ Γ) En xs (table-at e ∷ u ∷ [])
+      → ((v : Val) (r : Filled R) → Is (rowed R) r (v ∷ []) → r ≡ R .written (row-found (e .now) m)
+      → Goes K W 𝓣 En d b q v (‵ (flft κ s) ∷ ‵ (Entries κ e) ∷ Γ))
+      → Comes K W 𝓣 En xs d b q f (‵ (flft κ s) ∷ ‵ (Entries κ e) ∷ Γ)
+  calls-row-of t known {κ} {s} e m u is inside os k =
+      move t (1 ∷ []) $ use1 W (‵ (Entries κ e) ⊛ ‵ (Entries κ e)) (entries-twice 𝓤 H A at-mem run W κ e) $ split t $ move t (2 ∷ 0 ∷ []) $
+      use2 W (row-of-asks 𝓤 H A at-mem run R κ s e m u) (row-of-asked 𝓤 H A at-mem run W R κ s e m u is inside) $
+      calls-at t (fmOf 𝓤 H (W .laws) 𝓣) (RowOf R 𝓤 H A) (known .row-of) (row-of-call 𝓤 H A at-mem run R κ s e m u) os (λ v.
+      told t tt (‵ (flft κ s) ⊛ ‵ ftrue) (rowed R) (ensured 𝓤 H A (giving R) (gives R 𝓤) (κ, tt) (e, (m, tt)) tt)
+      (λ r. r ≡ R .written (row-found (e .now) m))
+      (λ r. tells 𝓤 H A (lasts (giving R) (κ, tt) (e, (m, tt))) (r ≡ R .written (row-found (e .now) m))) v
+      (λ r is′ h. split t $ move t (1 ∷ []) $ drop t $ k v r is′ h))
+
   module _ {κ₁ κ₂ : Lft} {q₁ q₂ : Share} where
-    pub calls-docket-refusal : K → (known : Callees 𝓤 H A at-mem run 𝓣) (e l : RefT (List ℕ)) (lo hi : ℕ) → lo < 2 ^ 32 → hi < 2 ^ 32
+    pub calls-docket-refusal : K → (known : Callees 𝓤 H A at-mem run R f 𝓣) (e l : RefT (List ℕ)) (lo hi : ℕ) → lo < 2 ^ 32 → hi < 2 ^ 32
         → Opds K W (docket-refusal-asks 𝓤 H A at-mem run κ₁ κ₂ q₁ q₂ e l lo hi ∷ Both κ₁ κ₂ e l ∷ Γ) En xs
         (table-at e ∷ table-at l ∷ vint w32 lo ∷ vint w32 hi ∷ [])
         → ((v : Val) (r : ℕ) → Is u32 r (v ∷ []) → r ≡ docket-refusal (e .now) (l .now) lo hi → Goes K W 𝓣 En d b q v (Lent κ₁ κ₂ q₁ q₂ e l Γ))
         → Comes K W 𝓣 En xs d b q #dockets·docket-refusal (Lent κ₁ κ₂ q₁ q₂ e l Γ)
-    calls-docket-refusal t known e l lo hi f g os k =
-        move t (1 ∷ []) $ use1 W (Both κ₁ κ₂ e l ⊛ Both κ₁ κ₂ e l) (both-twice 𝓤 H A at-mem run W κ₁ κ₂ q₁ q₂ e l lo hi f g) $
+    calls-docket-refusal t known e l lo hi low high os k =
+        move t (1 ∷ []) $ use1 W (Both κ₁ κ₂ e l ⊛ Both κ₁ κ₂ e l) (both-twice 𝓤 H A at-mem run W κ₁ κ₂ q₁ q₂ e l lo hi low high) $
         split t $ move t (2 ∷ 0 ∷ []) $
-        use2 W (docket-refusal-asks 𝓤 H A at-mem run κ₁ κ₂ q₁ q₂ e l lo hi) (docket-refusal-asked 𝓤 H A at-mem run W κ₁ κ₂ q₁ q₂ e l lo hi f g) $
+        use2 W (docket-refusal-asks 𝓤 H A at-mem run κ₁ κ₂ q₁ q₂ e l lo hi) (docket-refusal-asked 𝓤 H A at-mem run W κ₁ κ₂ q₁ q₂ e l lo hi low high) $
         calls-at t (fmOf 𝓤 H (W .laws) 𝓣) (DocketRefusal 𝓤 H A at-mem run) (known .finds-refusal)
         (docket-refusal-call 𝓤 H A at-mem run κ₁ κ₂ q₁ q₂ e l lo hi) os (λ v.
         told t tt (Tokens κ₁ κ₂ q₁ q₂) u32
@@ -317,16 +320,16 @@ module _ {M : Type 1} {𝓤 : URA M} {H : Heap 𝓤} {A : Atoms 𝓤} {at-mem : 
         (λ r. tells 𝓤 H A (lasts refusal-fn.ended (κ₁, (κ₂, tt)) (e, (l, (lo, (hi, tt))))) (r ≡ docket-refusal (e .now) (l .now) lo hi)) v
         (λ r is c. k v r is c))
 
-    pub calls-open : K → (known : Callees 𝓤 H A at-mem run 𝓣) (e l : RefT (List ℕ)) (lo hi r : ℕ) (w : Val) → lo < 2 ^ 32 → hi < 2 ^ 32
+    pub calls-open : K → (known : Callees 𝓤 H A at-mem run R f 𝓣) (e l : RefT (List ℕ)) (lo hi r : ℕ) (w : Val) → lo < 2 ^ 32 → hi < 2 ^ 32
         → Is u32 r (w ∷ []) → r ≡ docket-refusal (e .now) (l .now) lo hi
         → Opds K W (open-asks 𝓤 H A at-mem run κ₁ κ₂ q₁ q₂ e l lo hi r w ∷ Both κ₁ κ₂ e l ∷ Γ) En xs
         (table-at e ∷ table-at l ∷ vint w32 lo ∷ vint w32 hi ∷ w ∷ [])
         → ((v : Val) (m : Sweep) → Is S.the-row m (v ∷ []) → Opened (e .now) (l .now) lo hi m → Goes K W 𝓣 En d b q v (Lent κ₁ κ₂ q₁ q₂ e l Γ))
         → Comes K W 𝓣 En xs d b q #scan·open (Lent κ₁ κ₂ q₁ q₂ e l Γ)
-    calls-open t known e l lo hi r w f g is c os k =
-        move t (1 ∷ []) $ use1 W (Both κ₁ κ₂ e l ⊛ Both κ₁ κ₂ e l) (both-twice 𝓤 H A at-mem run W κ₁ κ₂ q₁ q₂ e l lo hi f g) $
+    calls-open t known e l lo hi r w low high is c os k =
+        move t (1 ∷ []) $ use1 W (Both κ₁ κ₂ e l ⊛ Both κ₁ κ₂ e l) (both-twice 𝓤 H A at-mem run W κ₁ κ₂ q₁ q₂ e l lo hi low high) $
         split t $ move t (2 ∷ 0 ∷ []) $
-        use2 W (open-asks 𝓤 H A at-mem run κ₁ κ₂ q₁ q₂ e l lo hi r w) (open-asked 𝓤 H A at-mem run W κ₁ κ₂ q₁ q₂ e l lo hi f g r w is c) $
+        use2 W (open-asks 𝓤 H A at-mem run κ₁ κ₂ q₁ q₂ e l lo hi r w) (open-asked 𝓤 H A at-mem run W κ₁ κ₂ q₁ q₂ e l lo hi low high r w is c) $
         calls-at t (fmOf 𝓤 H (W .laws) 𝓣) (Open 𝓤 H A at-mem run) (known .open-first)
         (open-call 𝓤 H A at-mem run κ₁ κ₂ q₁ q₂ e l lo hi r w) os (λ v.
         told t tt (Tokens κ₁ κ₂ q₁ q₂) S.the-row

@@ -1,4 +1,4 @@
--- Where a scan stands after i rows, from its opening to its answer.
+-- Where a scan stands after i rows, from its opening to its answer, however its rows are written.
 use mathlib.Core.Path.{_≡_, refl, sym, ap, _∙_}
 use mathlib.Core.Bool.{Bool, true, false, cond}
 use mathlib.Core.List.{List, [], _∷_}
@@ -8,30 +8,32 @@ use lib.Dec.{eqb, ltb}
 use lib.ListN.{length, take, drop, set, length-take, drop-of-length-le}
 use borrow.Author.Tests.{eqb-true, lt-ltb, le-ltb, ltb-true, ltb-false}
 use Rattle.lists.proofs.Bools.{by-cases, both-false, and-left, and-right, and-second-false}
+use Rattle.model.specs.declared.Tally.{Tally}
 use Rattle.model.specs.Lookup as model
+use Rattle.tables.specs.Slots.{InTable}
 use Rattle.tables.specs.Placed.{read-state}
 use Rattle.scan_step.specs.declared.Sweep.{Sweep}
-use Rattle.scan.specs.declared.Row.{Row}
 use Rattle.scan.specs.declared.Scanned.{Scanned}
 use Rattle.scan_step.specs.Sweeps.{Sweeping, rest, row-found, is-live, rows-from}
 use Rattle.check_refusal.specs.Dockets.{docket-refusal}
-use Rattle.scan.specs.Scan.{Outcome, written, filled, scan-tables, Opened, row-at, has-row, closed}
+use Rattle.scan.specs.Scan.{Outcome, filled, scan-as}
+use Rattle.scan.specs.Sweeps.{Opened, has-row, closed}
 use Rattle.scan.proofs.Filling.{so-far, length-so-far, set-so-far, drop-inside, drop-none, drop-next, take-over}
 
 -- The rows of the live dockets from lo to hi.
-abbrev pub live-rows : List ℕ → List ℕ → ℕ → ℕ → List (model.Row ℕ)
+abbrev pub live-rows : List ℕ → List ℕ → ℕ → ℕ → List (model.Row Tally)
 live-rows e l lo hi = model.live (model.lookup (read-state e l .levels)) lo hi
 
--- After i rows the sweep m has come to the next live docket. Where the scan is refused there is none, and no row is filled.
-pub record Reached (e l : List ℕ) (lo hi : ℕ) (ys : List Row) (i : ℕ) (m : Sweep) : Type 0 where
+-- After i rows of n the sweep m has come to the next live docket. Where the scan is refused there is none, and no row is filled.
+pub record Reached (e l : List ℕ) (lo hi n i : ℕ) (m : Sweep) : Type 0 where
   pub refused : (eqb (docket-refusal e l lo hi) 0 ≡ false) → (is-live m ≡ false) × (i ≡ 0)
   pub sweeping : (eqb (docket-refusal e l lo hi) 0 ≡ true) → Sweeping e m
   pub left : (eqb (docket-refusal e l lo hi) 0 ≡ true) → drop i (live-rows e l lo hi) ≡ rows-from e m
   pub inside : i ≤ length (live-rows e l lo hi)
-  pub room : i ≤ length ys
+  pub room : i ≤ n
 
-pub begun : (e l : List ℕ) (lo hi : ℕ) (ys : List Row) (m : Sweep) → Opened e l lo hi m → Reached e l lo hi ys 0 m
-begun e l lo hi ys m o = record {
+pub begun : (e l : List ℕ) (lo hi n : ℕ) (m : Sweep) → Opened e l lo hi m → Reached e l lo hi n 0 m
+begun e l lo hi n m o = record {
   refused = λ h. (o .refused h, refl);
   sweeping = o .sweeping;
   left = λ h. sym (o .rows h);
@@ -39,12 +41,12 @@ begun e l lo hi ys m o = record {
   room = omega arith;
 }
 
-module _ (e l : List ℕ) (lo hi : ℕ) (ys : List Row) (i : ℕ) (m : Sweep) (h : Reached e l lo hi ys i m) where
-  abbrev all : List (model.Row ℕ)
+module _ {R : Type 0} (written : model.Row Tally → R) (e l : List ℕ) (lo hi : ℕ) (ys : List R) (i : ℕ) (m : Sweep) (h : Reached e l lo hi (length ys) i m) where
+  abbrev all : List (model.Row Tally)
   all = live-rows e l lo hi
 
   -- The caller's rows after i rows.
-  abbrev rows : List Row
+  abbrev rows : List R
   rows = so-far written all ys i
 
   pub kept-length : length rows ≡ length ys
@@ -64,25 +66,28 @@ module _ (e l : List ℕ) (lo hi : ℕ) (ys : List Row) (i : ℕ) (m : Sweep) (h
     pub goes-sweeping : Sweeping e m
     goes-sweeping = h .sweeping accepted
 
-    coming-rows : drop i all ≡ row-found m ∷ rest e m
-    coming-rows = h .left accepted ∙ ap (λ (b : Bool). cond b (row-found m ∷ rest e m) []) lives
+    pub slot-inside : InTable e (m .slot)
+    slot-inside = goes-sweeping .here lives
 
-    pub stored : set rows i (row-at m) ≡ so-far written all ys (suc i)
-    stored = set-so-far written all ys i (row-found m) (rest e m) coming-rows has-room
+    coming-rows : drop i all ≡ row-found e m ∷ rest e m
+    coming-rows = h .left accepted ∙ ap (λ (b : Bool). cond b (row-found e m ∷ rest e m) []) lives
 
-    pub turned : (m′ : Sweep) → Sweeping e m′ → rows-from e m′ ≡ rest e m → Reached e l lo hi ys (suc i) m′
+    pub stored : set rows i (written (row-found e m)) ≡ so-far written all ys (suc i)
+    stored = set-so-far written all ys i (row-found e m) (rest e m) coming-rows has-room
+
+    pub turned : (m′ : Sweep) → Sweeping e m′ → rows-from e m′ ≡ rest e m → Reached e l lo hi (length ys) (suc i) m′
     turned m′ s q = record {
       refused = λ p. both-false accepted p;
       sweeping = λ _. s;
-      left = λ _. drop-next all i (row-found m) (rest e m) coming-rows ∙ sym q;
-      inside = drop-inside all i (row-found m) (rest e m) coming-rows;
+      left = λ _. drop-next all i (row-found e m) (rest e m) coming-rows ∙ sym q;
+      inside = drop-inside all i (row-found e m) (rest e m) coming-rows;
       room = has-room;
     }
 
   -- The end: no docket is live, or no row is left.
   module _ (t : has-row m i (length ys) ≡ false) where
     abbrev Filled : Scanned → Type 0
-    Filled a = _≡_ {A = Outcome} (record { answer = a; rows = rows }) (filled (model.scan (model.lookup (read-state e l .levels)) lo hi (length ys)) ys)
+    Filled a = _≡_ {A = Outcome R} (record { answer = a; rows = rows }) (filled written (model.scan (model.lookup (read-state e l .levels)) lo hi (length ys)) ys)
 
     counted : length (take i all) ≡ i
     counted = omega (arith, length-take i all, h .inside)
@@ -97,15 +102,15 @@ module _ (e l : List ℕ) (lo hi : ℕ) (ys : List Row) (i : ℕ) (m : Sweep) (h
       ended-more : is-live m ≡ true → Filled (closed m i 0)
       ended-more live =
           let full : i ≡ length ys = omega (arith, h .room, ltb-false i (length ys) (and-second-false (is-live m) (ltb i (length ys)) t live)) in
-          let coming : drop i all ≡ row-found m ∷ rest e m = h .left accept ∙ ap (λ (b : Bool). cond b (row-found m ∷ rest e m) []) live in
+          let coming : drop i all ≡ row-found e m ∷ rest e m = h .left accept ∙ ap (λ (b : Bool). cond b (row-found e m ∷ rest e m) []) live in
           same (ap (λ (k : ℕ). take k all) (sym full))
-          (lt-ltb (length ys) (length all) (omega (arith, drop-inside all i (row-found m) (rest e m) coming)) ∙ sym live)
+          (lt-ltb (length ys) (length all) (omega (arith, drop-inside all i (row-found e m) (rest e m) coming)) ∙ sym live)
           (ap (λ (k : ℕ). model.first-key (drop k all)) (sym full) ∙ ap model.first-key coming ∙ sym (ap (λ (b : Bool). cond b (m .key) 0) live))
 
       -- Every live docket has a row.
       ended-last : is-live m ≡ false → Filled (closed m i 0)
       ended-last none =
-          let over : length all ≤ i = drop-none all i (h .left accept ∙ ap (λ (b : Bool). cond b (row-found m ∷ rest e m) []) none) in
+          let over : length all ≤ i = drop-none all i (h .left accept ∙ ap (λ (b : Bool). cond b (row-found e m ∷ rest e m) []) none) in
           same (take-over all (length ys) (omega (arith, h .room)) ∙ sym (take-over all i over))
           (le-ltb (length ys) (length all) (omega (arith, h .room)) ∙ sym none)
           (ap model.first-key (drop-of-length-le all {i = length ys} (omega (arith, h .room))) ∙ sym (ap (λ (b : Bool). cond b (m .key) 0) none))
@@ -113,8 +118,8 @@ module _ (e l : List ℕ) (lo hi : ℕ) (ys : List Row) (i : ℕ) (m : Sweep) (h
       ended-accepted : Filled (closed m i 0)
       ended-accepted = by-cases (is-live m) ended-more ended-last
 
-    pub ended : (r : ℕ) → r ≡ docket-refusal e l lo hi → _≡_ {A = Outcome} (record { answer = closed m i r; rows = rows }) (scan-tables e l lo hi ys)
-    unfolding scan-tables
+    pub ended : (r : ℕ) → r ≡ docket-refusal e l lo hi
+        → _≡_ {A = Outcome R} (record { answer = closed m i r; rows = rows }) (scan-as written (docket-refusal e l lo hi) (model.lookup (read-state e l .levels)) lo hi ys)
     ended r is = by-cases (eqb (docket-refusal e l lo hi) 0)
         (λ p. rw (is, p, eqb-true (docket-refusal e l lo hi) 0 p) (ended-accepted p))
         (λ p. rw (is, p, h .refused p .0, h .refused p .1) refl)

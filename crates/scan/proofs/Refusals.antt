@@ -1,7 +1,7 @@
 -- What the tables are where a scan is not refused, and the sweep as it begins.
 use mathlib.Core.Path.{_≡_, sym, _∙_}
 use mathlib.Core.Logic.{_≢_}
-use mathlib.Core.Bool.{true, false, true≢false}
+use mathlib.Core.Bool.{false, true≢false}
 use mathlib.Core.List.{List}
 use Prim.Native.Nat.{ℕ}
 use borrow.Author.Tests.{eq-eqb, eqb-true}
@@ -13,7 +13,7 @@ use Rattle.lookup_level.specs.Readable.{Readable}
 use Rattle.lookup_level.proofs.Sound.{readable}
 use Rattle.scan_step.specs.declared.Sweep.{Sweep}
 use Rattle.scan_step.specs.Sweeps.{Sweeping, is-live, rows-from}
-use Rattle.scan.specs.Scan.{Opened}
+use Rattle.scan.specs.Sweeps.{Opened}
 
 module _ (e l : List ℕ) (lo hi : ℕ) where
   pub allowed-readable : docket-refusal e l lo hi ≡ 0 → Readable e l

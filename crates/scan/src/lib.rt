@@ -1,19 +1,33 @@
-// Scan: the live dockets from lo to hi, written into the caller's rows.
+// Scan: the live dockets from lo to hi, written into the caller's rows. The hall's rows show all, the grower's counts and stamps only.
 use check_refusal::docket_refusal;
 use scan_step::Sweep;
 use scan_sweep::advance;
 use scan_sweep::begin;
 use scan_sweep::ended;
+use table_slots::count_of;
+use table_slots::stamp_of;
+use table_slots::tally_of;
 ghost use mathlib.Core.Path.{_≡_};
+ghost use Rattle.tables.specs.Slots.{InTable};
 ghost use Rattle.check_refusal.specs.Dockets.{docket-refusal};
 ghost use Rattle.scan_step.specs.Sweeps.{Sweeping, rest, rows-from};
-ghost use Rattle.scan.specs.Scan.{Opened, row-at, has-row, closed, scan-tables};
+ghost use Rattle.scan.specs.Scan.{scan-tables, scan-counts-tables};
+ghost use Rattle.scan.specs.Sweeps.{Opened, row-at, count-row-at, has-row, closed};
 
-// A live docket, its tally and its stamp.
+// A live docket, its count, its price and its stamp.
 #[repr(C)]
 pub struct Row {
     pub docket: u32,
-    pub tally: u32,
+    pub count: u32,
+    pub price: u32,
+    pub stamp: u32,
+}
+
+// The same for the grower: a live docket, its count and its stamp.
+#[repr(C)]
+pub struct CountRow {
+    pub docket: u32,
+    pub count: u32,
     pub stamp: u32,
 }
 
@@ -33,7 +47,28 @@ pub fn scan(entries: &[u32], levels: &[u32], lo: u32, hi: u32, rows: &mut [Row])
     let mut m = open(entries, levels, lo, hi, refusal);
     let mut i = 0;
     while goes_on(m, i, rows.len()) {
-        rows[i] = row_of(m);
+        rows[i] = row_of(entries, m);
+        m = next(entries, m);
+        i += 1;
+    }
+    close(m, i, refusal)
+}
+
+// The same over the grower's rows: the code differs in the rows alone, and so does the proof.
+pub fn scan_counts(
+    entries: &[u32],
+    levels: &[u32],
+    lo: u32,
+    hi: u32,
+    rows: &mut [CountRow],
+) -> Scanned
+    ensures { λ r. ⌜ record { answer = r; rows = now (rows .exit) } ≡ scan-counts-tables (now (entries .entry)) (now (levels .entry)) lo hi (now (rows .entry)) ⌝ }
+{
+    let refusal = docket_refusal(entries, levels, lo, hi);
+    let mut m = open(entries, levels, lo, hi, refusal);
+    let mut i = 0;
+    while goes_on(m, i, rows.len()) {
+        rows[i] = count_row_of(entries, m);
         m = next(entries, m);
         i += 1;
     }
@@ -68,13 +103,30 @@ fn goes_on(m: Sweep, filled: usize, rows: usize) -> bool
 }
 
 // The row of the live docket that the sweep has come to.
-fn row_of(m: Sweep) -> Row
-    ensures { λ r. ⌜ r ≡ row-at m ⌝ }
+fn row_of(entries: &[u32], m: Sweep) -> Row
+    requires { ⌜ InTable (now entries) (m .slot) ⌝ }
+    ensures { λ r. ⌜ r ≡ row-at (now (entries .entry)) m ⌝ }
 {
+    let tally = tally_of(entries, m.slot);
+    let stamp = stamp_of(entries, m.slot);
     Row {
         docket: m.key,
-        tally: m.value,
-        stamp: m.stamp,
+        count: tally.count,
+        price: tally.price,
+        stamp: stamp,
+    }
+}
+
+// The grower's row of it, which no price is read for.
+fn count_row_of(entries: &[u32], m: Sweep) -> CountRow
+    requires { ⌜ InTable (now entries) (m .slot) ⌝ }
+    ensures { λ r. ⌜ r ≡ count-row-at (now (entries .entry)) m ⌝ }
+{
+    let slot = m.slot;
+    CountRow {
+        docket: m.key,
+        count: count_of(entries, slot),
+        stamp: stamp_of(entries, slot),
     }
 }
 

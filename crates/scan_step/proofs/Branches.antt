@@ -7,7 +7,7 @@ use Prim.Native.Nat.{ℕ, _+_, _<_, _≤_}
 use borrow.Author.Tests.{eq-eqb, ne-eqb, lt-ltb, le-ltb, le-leb, lt-leb, leb-false}
 use lib.Dec.{leb}
 use Rattle.lists.proofs.Bools.{or-false-left, or-false-right}
-use Rattle.tables.specs.Slots.{kind-of, tally-of, stamp-of}
+use Rattle.tables.specs.Slots.{kind-of, stamp-of}
 use Rattle.scan_heads.specs.Heads.{passed}
 use Rattle.scan_step.specs.declared.Sweep.{Sweep}
 use Rattle.scan_step.specs.Sweeps.{next-key, is-hidden, told, standing, moved, gone, doubtful, neared}
@@ -24,7 +24,7 @@ module _ (e : List ℕ) (m : Sweep) where
     gone-delete is kind = rw (le-ltb (next-key m) (m .from) le, is, ne-eqb (kind-of e (m .heads .slot)) 1 kind)
 
     pub gone-found : is-hidden e m ≡ false → kind-of e (m .heads .slot) ≡ 1
-        → gone e m ≡ told (moved m (passed e (m .heads)) (next-key m + 1)) 0 1 (next-key m) (tally-of e (m .heads .slot)) (stamp-of e (m .heads .slot))
+        → gone e m ≡ told (moved m (passed e (m .heads)) (next-key m + 1)) 0 1 (next-key m) (m .heads .slot)
     gone-found is kind = rw (le-ltb (next-key m) (m .from) le, is, eq-eqb (kind-of e (m .heads .slot)) 1 kind)
 
   -- The fence is reached, or the date decides.

@@ -8,6 +8,7 @@ use native.Mathlib.Decide.{ℕ-discrete}
 use borrow.Author.Tests.{ne-eqb, ltb-true}
 use lib.Dec.{ltb}
 use Rattle.lists.proofs.Bools.{cond-elim}
+use Rattle.model.specs.declared.Tally.{Tally}
 use Rattle.model.specs.Records.{Entry}
 use Rattle.model.specs.Lookup.{Found, absent, judged, lookup-from, lookup}
 use Rattle.tables.specs.Words.{Fits32}
@@ -47,7 +48,7 @@ beginning-says e k j le date (s ∷ ss) =
 
 -- Of the levels i to before i + n, with the latest date met above them.
 module _ (e : List ℕ) (p : ℕ → ℕ) (r : ℕ → List ℕ) (j : ℕ) where
-  abbrev found : ℕ → ℕ → ℕ → Found ℕ
+  abbrev found : ℕ → ℕ → ℕ → Found Tally
   found n i date = lookup-from date (levels-from e p r n i) j
 
   -- A level without a point of the docket hands on the latest date, which its ranges may raise.
@@ -64,7 +65,7 @@ module _ (e : List ℕ) (p : ℕ → ℕ) (r : ℕ → List ℕ) (j : ℕ) where
       ∙ absent-all n (suc i) (max date (slots-latest e (r i) j)) (λ m a b. none m (omega arith) (omega arith))
 
   -- The levels before one have no point of the docket: that one, which has a point of it, is judged by their latest date.
-  module _ (level : ℕ) (x : Entry ℕ) (t : ℕ) (is : (date : ℕ) → points-say e (p level) date j ≡ tells date x t) where
+  module _ (level : ℕ) (x : Entry Tally) (t : ℕ) (is : (date : ℕ) → points-say e (p level) date j ≡ tells date x t) where
     pub found-at : (d n i date : ℕ) → i + d ≡ level → d < n → ((m : ℕ) → i ≤ m → m < level → (date : ℕ) → points-say e (p m) date j ≡ Deeper date)
         → found n i date ≡ judged (max date (levels-latest e r j d i)) x t
     unfolding lookup-from levels-from levels-latest

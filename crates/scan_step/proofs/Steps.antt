@@ -1,7 +1,7 @@
 -- A step of a sweep: what the least record to come says of its docket, and that passing it leaves what is to come of the others.
 use mathlib.Core.Path.{_≡_, refl, sym, ap, _∙_, subst}
 use mathlib.Core.Logic.{_≢_}
-use mathlib.Core.Bool.{cond}
+use mathlib.Core.Bool.{true, cond, false≢true}
 use mathlib.Core.List.{List}
 use Prim.Native.Nat.{ℕ, suc, _+_, _*_, _<_, _≤_, max}
 use native.Mathlib.Omega.{arith}
@@ -10,7 +10,7 @@ use lib.Dec.{eqb, ltb, leb}
 use Rattle.lists.proofs.Bools.{by-cases, cond-elim}
 use Rattle.model.specs.Lookup.{absent, judged, add-row, lookup}
 use Rattle.tables.specs.Words.{Fits32}
-use Rattle.tables.specs.Slots.{next-of, kind-of, lo-of, stamp-of}
+use Rattle.tables.specs.Slots.{InTable, next-of, kind-of, lo-of, stamp-of}
 use Rattle.tables.specs.Placed.{read-point}
 use Rattle.lookup_level.proofs.Walks.{points-say, points-here, points-next}
 use Rattle.scan_heads.specs.Heads.{passed, point, left}
@@ -18,14 +18,17 @@ use Rattle.scan_heads.proofs.Packs.{key-on}
 use Rattle.scan_heads.proofs.Passing.{points-least, points-later, slot-key, slot-on, level-inside, passed-fits, passed-later, passed-fewer, point-first, point-passed}
 use Rattle.scan_fences.specs.Fences.{ranges-in}
 use Rattle.scan_step.specs.declared.Sweep.{Sweep}
-use Rattle.scan_step.specs.Sweeps.{to-come, next-key, next-level, date-above, is-hidden, Sweeping, told, moved, gone, doubtful, neared, rest, listed, steps-ahead, Stepped}
+use Rattle.scan_step.specs.Sweeps.{to-come, next-key, next-level, date-above, is-hidden, Sweeping, told, standing, moved, gone, doubtful, neared, rest, listed, steps-ahead, Stepped}
 use Rattle.scan_step.proofs.Branches.{gone-before, gone-hidden, gone-delete, gone-found, undoubted, neared-stands, neared-gone}
 use Rattle.scan_step.proofs.Live.{live-same, live-none, live-pass}
 use Rattle.scan_step.proofs.Coming.{points-before, absent-all, found-at, looks-same, decides-same}
 
 -- The same to come, whether the sweep is on its way or has come to a docket.
-pub told-sweeping : {e : List ℕ} {m : Sweep} {going alive key value stamp : ℕ} → Sweeping e m → Sweeping e (told m going alive key value stamp)
-told-sweeping s = record { points = s .points; ranges = s .ranges; covers = s .covers; bound = s .bound; last = s .last }
+told-sweeping : {e : List ℕ} {m : Sweep} {going alive key slot : ℕ} → Sweeping e m → (eqb alive 1 ≡ true → InTable e slot) → Sweeping e (told m going alive key slot)
+told-sweeping s here = record { points = s .points; ranges = s .ranges; covers = s .covers; bound = s .bound; last = s .last; here = here }
+
+pub standing-sweeping : {e : List ℕ} {m : Sweep} {going : ℕ} → Sweeping e m → Sweeping e (standing m going)
+standing-sweeping s = told-sweeping s (s .here)
 
 module _ {e : List ℕ} {m : Sweep} (words : Fits32 e) (s : Sweeping e m) where
   abbrev k : ℕ
@@ -39,9 +42,9 @@ module _ {e : List ℕ} {m : Sweep} (words : Fits32 e) (s : Sweeping e m) where
       let least = points-least (s .points) i (omega arith) in
       points-before e words (point (m .heads) i) j (least .0) (omega (arith, least .1)))
 
-  pub stepped-none : m .hi < k → Stepped e m (told m 0 0 (m .key) (m .value) (m .stamp))
+  pub stepped-none : m .hi < k → Stepped e m (told m 0 0 (m .key) (m .slot))
   stepped-none past = record {
-    sweeping = told-sweeping s;
+    sweeping = told-sweeping s (λ no. absurd (false≢true no));
     leads = live-none (lookup (to-come e m)) (m .from) k (m .hi) (λ j a b. nothing-before j b) past;
     fewer = λ g. absurd (g refl);
   }
@@ -94,6 +97,7 @@ module _ {e : List ℕ} {m : Sweep} (words : Fits32 e) (s : Sweeping e m) where
       covers = λ j n a b c. s .covers j n (omega (arith, passed-later (s .points) low words)) b c;
       bound = s .bound;
       last = s .last;
+      here = s .here;
     }
 
     -- Whether or not the next record lies past the fence.
@@ -134,7 +138,7 @@ module _ {e : List ℕ} {m : Sweep} (words : Fits32 e) (s : Sweeping e m) where
         (λ c. by-cases (eqb (kind-of e slot) 1)
         (λ u. subst (Stepped e m) (sym (gone-found e m from c (eqb-true (kind-of e slot) 1 u)))
         (record {
-          sweeping = told-sweeping (moved-sweeping (k + 1));
+          sweeping = told-sweeping (moved-sweeping (k + 1)) (λ _. slot-on (s .points) low .within);
           leads = rest-passed from ∙ rw (says-here, c, u);
           fewer = λ g. absurd (g refl);
         }))
@@ -146,7 +150,7 @@ module _ {e : List ℕ} {m : Sweep} (words : Fits32 e) (s : Sweeping e m) where
 
   pub near-leads : Leads (neared e m)
   near-leads = by-cases (doubtful e m)
-      (λ t. subst Leads (sym (neared-stands e m t)) (told-sweeping s, refl))
+      (λ t. subst Leads (sym (neared-stands e m t)) (standing-sweeping s, refl))
       (λ t.
       let st = gone-stepped (omega (arith, undoubted e m t .0, s .bound)) in
       subst Leads (sym (neared-gone e m t)) (st .sweeping, st .leads))

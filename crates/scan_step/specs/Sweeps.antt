@@ -1,13 +1,14 @@
 -- A sweep over the levels: what it still has to come, the rows of the live dockets among it, and a step.
 use mathlib.Core.Path.{_≡_}
 use mathlib.Core.Logic.{_≢_}
-use mathlib.Core.Bool.{Bool, cond, _||_, not}
+use mathlib.Core.Bool.{Bool, true, cond, _||_, not}
 use mathlib.Core.List.{List, [], _∷_, map}
 use Prim.Native.Nat.{ℕ, zero, suc, _+_, _*_, _<_, _≤_}
 use lib.Dec.{eqb, leb, ltb}
+use Rattle.model.specs.declared.Tally.{Tally}
 use Rattle.model.specs.Lookup.{Row, lookup, live}
 use Rattle.model.specs.Records.{Level}
-use Rattle.tables.specs.Slots.{kind-of, tally-of, stamp-of}
+use Rattle.tables.specs.Slots.{InTable, kind-of, tally-of, stamp-of}
 use Rattle.tables.specs.Sound.{chain-from}
 use Rattle.tables.specs.Placed.{read-point, read-range}
 use Rattle.scan_heads.specs.declared.Heads.{Heads}
@@ -16,16 +17,16 @@ use Rattle.scan_fences.specs.Fences.{ranges-in, Ready, levels-latest, Covering}
 use Rattle.scan_step.specs.declared.Sweep.{Sweep}
 
 -- A level that has the points from slot p on to come, and the ranges at some slots.
-abbrev pub coming-level : List ℕ → ℕ → List ℕ → Level ℕ ℕ
+abbrev pub coming-level : List ℕ → ℕ → List ℕ → Level ℕ Tally
 coming-level e p rs = record { points = map (read-point e) (chain-from e p); ranges = map (read-range e) rs; owed = 0 }
 
 -- What n levels from level i on have to come, where p and r tell the first point and the ranges of each.
-unfoldable pub levels-from : List ℕ → (ℕ → ℕ) → (ℕ → List ℕ) → ℕ → ℕ → List (Level ℕ ℕ)
+unfoldable pub levels-from : List ℕ → (ℕ → ℕ) → (ℕ → List ℕ) → ℕ → ℕ → List (Level ℕ Tally)
 levels-from e p r zero i = []
 levels-from e p r (suc n) i = coming-level e (p i) (r i) ∷ levels-from e p r n (suc i)
 
 -- What the levels still have to come.
-abbrev pub to-come : List ℕ → Sweep → List (Level ℕ ℕ)
+abbrev pub to-come : List ℕ → Sweep → List (Level ℕ Tally)
 to-come e m = levels-from e (point (m .heads)) (ranges-in e (m .ranges)) (m .levels) 0
 
 -- The docket of the first record to come, and its level.
@@ -43,18 +44,23 @@ date-above e m = levels-latest e (ranges-in e (m .ranges)) (next-key m) (next-le
 abbrev pub is-hidden : List ℕ → Sweep → Bool
 is-hidden e m = leb (stamp-of e (m .heads .slot)) (date-above e m)
 
+-- Whether the sweep has come to a live docket.
+abbrev pub is-live : Sweep → Bool
+is-live m = eqb (m .live) 1
+
 -- The heads are those of the levels, the ranges can be followed, the fence lies no farther than past hi, and before it the date is the latest over a docket to come
--- of as many levels as it takes.
+-- of as many levels as it takes; the live docket's slot is in the table.
 pub record Sweeping (e : List ℕ) (m : Sweep) : Type 0 where
   pub points : Fits e (m .levels) (m .heads)
   pub ranges : Ready e (m .ranges) (m .levels)
   pub covers : (j n : ℕ) → next-key m ≤ j → j < m .fence → n ≤ m .levels → Covering e (m .ranges) (m .date) (m .cover) j n
   pub bound : m .fence ≤ m .hi + 1
   pub last : m .hi ≤ 65535
+  pub here : is-live m ≡ true → InTable e (m .slot)
 
 -- The same to come; the sweep is on its way, or has come to a live docket or to none.
-abbrev pub told : Sweep → ℕ → ℕ → ℕ → ℕ → ℕ → Sweep
-told m going alive key value stamp = record {
+abbrev pub told : Sweep → ℕ → ℕ → ℕ → ℕ → Sweep
+told m going alive key slot = record {
   heads = m .heads;
   ranges = m .ranges;
   levels = m .levels;
@@ -66,13 +72,12 @@ told m going alive key value stamp = record {
   going = going;
   live = alive;
   key = key;
-  value = value;
-  stamp = stamp;
+  slot = slot;
 }
 
 -- The same sweep, but for how it stands.
 abbrev pub standing : Sweep → ℕ → Sweep
-standing m going = told m going (m .live) (m .key) (m .value) (m .stamp)
+standing m going = told m going (m .live) (m .key) (m .slot)
 
 -- On its way with other heads, from another docket on.
 abbrev pub moved : Sweep → Heads → ℕ → Sweep
@@ -88,8 +93,7 @@ moved m heads from = record {
   going = 1;
   live = m .live;
   key = m .key;
-  value = m .value;
-  stamp = m .stamp;
+  slot = m .slot;
 }
 
 -- The first record is passed: one of its docket was passed before, or its docket is not live, or is.
@@ -100,7 +104,7 @@ gone e m =
     let heads = passed e (m .heads) in
     let r = moved m heads (k + 1) in
     cond (ltb k (m .from)) (moved m heads (m .from))
-    (cond (is-hidden e m || not (eqb (kind-of e s) 1)) r (told r 0 1 k (tally-of e s) (stamp-of e s)))
+    (cond (is-hidden e m || not (eqb (kind-of e s) 1)) r (told r 0 1 k s))
 
 -- The fence is reached, or the latest date is no earlier than the record's stamp; or else no level hides the record, and it is passed.
 abbrev pub doubtful : List ℕ → Sweep → Bool
@@ -110,22 +114,19 @@ abbrev pub neared : List ℕ → Sweep → Sweep
 neared e m = cond (doubtful e m) (standing m 1) (gone e m)
 
 -- The rows of the live dockets that are still to come, up to hi.
-abbrev pub rest : List ℕ → Sweep → List (Row ℕ)
+abbrev pub rest : List ℕ → Sweep → List (Row Tally)
 rest e m = live (lookup (to-come e m)) (m .from) (m .hi)
 
 -- The live docket that the sweep has come to.
-abbrev pub row-found : Sweep → Row ℕ
-row-found m = record { key = m .key; tally = m .value; stamp = m .stamp }
-
-abbrev pub is-live : Sweep → Bool
-is-live m = eqb (m .live) 1
+abbrev pub row-found : List ℕ → Sweep → Row Tally
+row-found e m = record { key = m .key; tally = tally-of e (m .slot); stamp = stamp-of e (m .slot) }
 
 -- It and those that are still to come; none where the sweep came to no live docket.
-abbrev pub rows-from : List ℕ → Sweep → List (Row ℕ)
-rows-from e m = cond (is-live m) (row-found m ∷ rest e m) []
+abbrev pub rows-from : List ℕ → Sweep → List (Row Tally)
+rows-from e m = cond (is-live m) (row-found e m ∷ rest e m) []
 
 -- What a sweep that has come to a docket or to none lists, and what one on its way has to come.
-abbrev pub listed : List ℕ → Sweep → List (Row ℕ)
+abbrev pub listed : List ℕ → Sweep → List (Row Tally)
 listed e m = cond (eqb (m .going) 0) (rows-from e m) (rest e m)
 
 -- At most two steps for each record to come, and one for the fence.

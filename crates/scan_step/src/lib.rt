@@ -5,7 +5,6 @@ use scan_heads::pass;
 use table_slots::PUT;
 use table_slots::kind_of;
 use table_slots::stamp_of;
-use table_slots::tally_of;
 ghost use mathlib.Core.Path.{_≡_};
 ghost use Prim.Native.Nat.{_≤_};
 ghost use Rattle.scan_step.specs.Sweeps.{next-key, doubtful, is-hidden, standing, gone, neared, Sweeping};
@@ -18,8 +17,8 @@ pub const SEARCHING: u32 = 1;
 
 // What each of some levels has next, point and ranges (two places a level); the latest date of the ranges over the dockets before the
 // fence, and how many levels it takes to have it (cover); the docket from which on, and the last up to which live ones are listed; how the
-// sweep stands (going), whether it has come to a live docket (1 or 0), and to which. No field is a bool: the gap beside it would be copied
-// byte by byte. Slots are halves of a word: a larger state would not stay in registers in the caller's loop.
+// sweep stands (going), whether it has come to a live docket (1 or 0), to which, and in which slot its put is. No field is a bool: the gap
+// beside it would be copied byte by byte. Slots are halves of a word: a larger state would not stay in registers in the caller's loop.
 pub struct Sweep {
     pub heads: Heads,
     pub ranges: [u32; 14],
@@ -32,8 +31,7 @@ pub struct Sweep {
     pub going: u32,
     pub live: u32,
     pub key: u32,
-    pub value: u32,
-    pub stamp: u32,
+    pub slot: usize,
 }
 
 // One record, unless it is doubtful. The fence lies no farther than past the last docket that is asked for.
@@ -87,8 +85,7 @@ pub fn go(e: &[u32], m: Sweep, hidden: bool) -> Sweep
     r.going = ARRIVED;
     r.live = 1;
     r.key = key;
-    r.value = tally_of(e, slot);
-    r.stamp = stamp_of(e, slot);
+    r.slot = slot;
     r
 }
 

@@ -11,7 +11,7 @@ use Rattle.tables.specs.Words.{Fits32}
 use Rattle.lists.proofs.Bools.{by-cases, cond-elim}
 use Rattle.scan_step.specs.declared.Sweep.{Sweep}
 use Rattle.scan_step.specs.Sweeps.{Sweeping, standing, neared, rest, rows-from, listed, steps-ahead}
-use Rattle.scan_step.proofs.Steps.{told-sweeping, near-leads, steps-left, listed-same, fewer-steps}
+use Rattle.scan_step.proofs.Steps.{standing-sweeping, near-leads, steps-left, listed-same, fewer-steps}
 use Rattle.scan_sweep.specs.Sweeps.{step-of, arrived, searched, advanced}
 use Rattle.scan_sweep.proofs.Crossing.{step-stepped}
 
@@ -86,13 +86,13 @@ module _ (e : List ℕ) (words : Fits32 e) where
   -- A search comes to the first row of what was to come.
   module _ {m : Sweep} (s : Sweeping e m) where
     pub searched-sweeping : Sweeping e (searched e m)
-    searched-sweeping = arrived-listed (suc (steps-ahead e m)) (standing m 1) (told-sweeping s) .0
+    searched-sweeping = arrived-listed (suc (steps-ahead e m)) (standing m 1) (standing-sweeping s) .0
 
     searched-ends : searched e m .going ≡ 0
-    searched-ends = arrived-ends (suc (steps-ahead e m)) (standing m 1) (told-sweeping s) (omega arith)
+    searched-ends = arrived-ends (suc (steps-ahead e m)) (standing m 1) (standing-sweeping s) (omega arith)
 
     pub searched-rows : rows-from e (searched e m) ≡ rest e m
-    searched-rows = rw (eq-eqb (searched e m .going) 0 searched-ends) at (arrived-listed (suc (steps-ahead e m)) (standing m 1) (told-sweeping s) .1)
+    searched-rows = rw (eq-eqb (searched e m .going) 0 searched-ends) at (arrived-listed (suc (steps-ahead e m)) (standing m 1) (standing-sweeping s) .1)
 
   -- So does an advance, by one step or by a search from there on.
   module _ (m r : Sweep) (s : Sweeping e r) (leads : rest e m ≡ listed e r) where
@@ -104,8 +104,8 @@ module _ (e : List ℕ) (words : Fits32 e) where
         cond-elim Comes (eqb (r .going) 0) r (standing (searched e (standing r 1)) 0)
         (λ t. (s, sym (rw t at leads)))
         (λ t.
-        let on : Sweeping e (standing r 1) = told-sweeping s in
-        (told-sweeping (searched-sweeping on), searched-rows on ∙ sym (rw t at leads)))
+        let on : Sweeping e (standing r 1) = standing-sweeping s in
+        (standing-sweeping (searched-sweeping on), searched-rows on ∙ sym (rw t at leads)))
 
   module _ (m : Sweep) {r : Sweep} (is : r ≡ neared e m) where
     pub advanced-at-once : r .going ≡ 0 → r ≡ advanced e m

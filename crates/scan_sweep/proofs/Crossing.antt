@@ -19,7 +19,7 @@ use Rattle.scan_step.proofs.Steps.{nothing-before, stepped-none, gone-stepped}
 use Rattle.scan_sweep.specs.Sweeps.{view-of, crossed, step-of}
 
 module _ (e : List ℕ) (m : Sweep) where
-  pub step-none : m .hi < next-key m → step-of e m ≡ told m 0 0 (m .key) (m .value) (m .stamp)
+  pub step-none : m .hi < next-key m → step-of e m ≡ told m 0 0 (m .key) (m .slot)
   step-none lt = rw (lt-ltb (m .hi) (next-key m) lt)
 
   module _ (le : next-key m ≤ m .hi) where
@@ -44,6 +44,7 @@ module _ {e : List ℕ} {m : Sweep} (words : Fits32 e) (s : Sweeping e m) where
       covers = λ j n a b c. view .covers j n a (omega arith) c;
       bound = omega arith;
       last = s .last;
+      here = s .here;
     }
 
     -- Before the first record's docket nothing is to come, and from it on the ranges say the same.

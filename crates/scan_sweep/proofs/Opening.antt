@@ -1,5 +1,6 @@
 -- A sweep that sets out: its heads are those of the levels from lo on, and it has to come what the tables read as from there on.
 use mathlib.Core.Path.{_≡_, refl, _∙_}
+use mathlib.Core.Bool.{false≢true}
 use mathlib.Core.List.{List}
 use Prim.Native.Nat.{ℕ, zero, suc, _+_, _<_, _≤_, max}
 use native.Mathlib.Nat.{zero-add}
@@ -12,7 +13,7 @@ use Rattle.model.specs.Lookup.{lookup-from, lookup, live}
 use Rattle.tables.specs.Slots.{lo-of}
 use Rattle.tables.specs.Rows.{settings-of, level-row}
 use Rattle.tables.specs.Sound.{chain-from, range-chain}
-use Rattle.tables.specs.Placed.{read-levels, read-state}
+use Rattle.tables.specs.Placed.{read-levels, read-state, levels-as, state-as}
 use Rattle.chain_cover.specs.Walks.{Ordered}
 use Rattle.chain_cover.specs.declared.Front.{Front}
 use Rattle.chain_cover.specs.Fronts.{front-at}
@@ -97,17 +98,18 @@ module _ {e l : List ℕ} (readable : Readable e l) (lo : ℕ) where
       covers = λ j m a b c. absurd (omega arith);
       bound = omega arith;
       last = last;
+      here = λ no. absurd (false≢true no);
     }
 
     -- The levels as the tables have them.
     reads-same : (j k i date : ℕ)
         → lookup-from date (levels-from e (λ m. level-row l m .points) (λ m. range-chain e l m) k i) j ≡ lookup-from date (read-levels e l k i) j
-    unfolding lookup-from levels-from read-levels
+    unfolding lookup-from levels-from levels-as
     reads-same j zero i date = refl
     reads-same j (suc k) i date = rw (reads-same j k (suc i) (max date (slots-latest e (range-chain e l i) j)))
 
     opened-looks : (j : ℕ) → lo ≤ j → lookup (to-come e (opened e l lo hi)) j ≡ lookup (read-state e l .levels) j
-    unfolding read-state
+    unfolding state-as
     opened-looks j le =
         looks-same e (λ m. level-row l m .points) (point (opened-heads e l lo n)) (λ m. range-chain e l m) (ranges-in e (opened-ranges e l n)) j n
         (λ i lt. decides-same e (level-row l i .points) (point (opened-heads e l lo n) i) (range-chain e l i) (ranges-in e (opened-ranges e l n) i) j

@@ -30,7 +30,7 @@ opened-ranges e l n = iterate (λ i rs. put-front rs i (front-at e (level-row l 
 abbrev pub opened : List ℕ → List ℕ → ℕ → ℕ → Sweep
 opened e l lo hi =
     let n = settings-of l .deepest + 1 in
-    record { heads = opened-heads e l lo n; ranges = opened-ranges e l n; levels = n; cover = 0; date = 0; fence = 0; from = lo; hi = hi; going = 1; live = 0; key = 0; value = 0; stamp = 0 }
+    record { heads = opened-heads e l lo n; ranges = opened-ranges e l n; levels = n; cover = 0; date = 0; fence = 0; from = lo; hi = hi; going = 1; live = 0; key = 0; slot = 0 }
 
 -- A sweep that has come to its end.
 abbrev pub over : Sweep
@@ -46,8 +46,7 @@ over = record {
   going = 0;
   live = 0;
   key = 0;
-  value = 0;
-  stamp = 0;
+  slot = 0;
 }
 
 -- The ranges were surveyed; the fence lies no farther than past hi.
@@ -64,8 +63,7 @@ viewing m v = record {
   going = 1;
   live = m .live;
   key = m .key;
-  value = m .value;
-  stamp = m .stamp;
+  slot = m .slot;
 }
 
 -- For the first record's docket.
@@ -78,7 +76,7 @@ crossed e m = viewing m (view-of e m)
 -- Nothing is left up to hi, or the ranges are surveyed, or the first record is passed.
 abbrev pub step-of : List ℕ → Sweep → Sweep
 step-of e m =
-    cond (ltb (m .hi) (next-key m)) (told m 0 0 (m .key) (m .value) (m .stamp))
+    cond (ltb (m .hi) (next-key m)) (told m 0 0 (m .key) (m .slot))
     (cond (leb (m .fence) (next-key m)) (crossed e m) (gone e m))
 
 -- Step after step until the sweep has come to a live docket or to none, n at most.

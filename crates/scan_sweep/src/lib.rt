@@ -59,8 +59,7 @@ pub fn ended() -> Sweep
         going: ARRIVED,
         live: 0,
         key: 0,
-        value: 0,
-        stamp: 0,
+        slot: 0,
     }
 }
 
@@ -107,8 +106,7 @@ fn open(e: &[u32], l: &[u32], lo: u32, hi: u32) -> Sweep
         going: SEARCHING,
         live: 0,
         key: 0,
-        value: 0,
-        stamp: 0,
+        slot: 0,
     }
 }
 
@@ -189,7 +187,7 @@ fn latest_above(e: &[u32], m: Sweep) -> u32
 
 // No live docket is left.
 fn none(m: Sweep) -> Sweep
-    ensures { λ r. ⌜ r ≡ told m 0 0 (m .key) (m .value) (m .stamp) ⌝ }
+    ensures { λ r. ⌜ r ≡ told m 0 0 (m .key) (m .slot) ⌝ }
 {
     let mut r = m;
     r.going = ARRIVED;

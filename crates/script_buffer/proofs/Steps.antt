@@ -8,8 +8,8 @@ use borrow.Author.Tests.{eq-eqb, ne-eqb}
 use lib.ListN.{length, take, drop, set, length-append, take-append-drop, drop-of-length-le}
 use lib.Seq.{take-at, take-all, take-suc-set, drop-at, drop-drop, drop-set-lt, length-take-le}
 use Rattle.script_lines.specs.Lines.{line-of}
-use Rattle.script_prints.specs.Texts.{numbers-text, overwrite}
-use Rattle.script_prints.proofs.Digits.{length-numbers}
+use Rattle.script_prints.specs.Texts.{numbers-of, numbers-text, overwrite}
+use Rattle.script_prints.proofs.Digits.{length-printed}
 use Rattle.script_prints.proofs.Overwrites.{Printed}
 use Rattle.script_store.specs.declared.Turn.{Turn}
 use Rattle.script_command.specs.Script.{line-step}
@@ -69,14 +69,14 @@ takes-end byte s s' is ends = rw (eq-eqb byte 10 is) ends
 
 module _ (e l line output : List ℕ) (m : Progress) where
   -- A line carried out and its answer printed.
-  pub ends : (e' l' output' : List ℕ) (turn : Turn) (waiting : ℕ) → m .waiting + 33 ≤ length output
+  pub ends : (e' l' output' : List ℕ) (turn : Turn) (waiting : ℕ) → m .waiting + 44 ≤ length output
       → stepped e' l' turn ≡ line-step (line-of (take (m .length) line)) (memory e l (size-of m))
-      → Printed output (m .waiting) (numbers-text (turn .first) (turn .second) (turn .third)) waiting output'
+      → Printed output (m .waiting) (numbers-text (numbers-of (turn .printed))) waiting output'
       → standing e' l' line output' (after-line turn waiting) ≡ ended (standing e l line output m)
   unfolding ended
   ends e' l' output' turn waiting room told printed =
-      let text = numbers-text (turn .first) (turn .second) (turn .third) in
-      let few = length-numbers (turn .first) (turn .second) (turn .third) in
+      let text = numbers-text (numbers-of (turn .printed)) in
+      let few = length-printed (turn .printed) in
       let shown = waits output output' text (m .waiting) waiting (omega (arith, few)) printed in
       rw (shown .0, shown .1, ← told, take-append-drop (m .length) line)
 

@@ -7,12 +7,8 @@ use lib.Dec.{eqb}
 use lib.ListN.{length, take, drop}
 use Rattle.script_lines.specs.Lines.{line-of}
 use Rattle.script_prints.specs.Texts.{numbers-text}
-use Rattle.script_store.specs.Memory.{Memory, Printed}
+use Rattle.script_store.specs.Memory.{Memory}
 use Rattle.script_command.specs.Script.{line-step}
-
--- "Each line prints three numbers"
-abbrev pub text-of : Printed → List ℕ
-text-of p = numbers-text (p .first) (p .second) (p .third)
 
 -- Where a script stands: the bytes of a line that are kept, those that wait, and after each the rest of its room, so that every byte is told.
 pub record Standing : Type 0 where
@@ -30,7 +26,7 @@ kept line byte = take 64 (line ++ (byte ∷ []))
 unfoldable pub ended : Standing → Standing
 ended s =
     let r = line-step (line-of (s .line)) (s .memory) in
-    let text = text-of (r .printed) in
+    let text = numbers-text (r .printed) in
     record { memory = r .memory; line = []; line-rest = s .line ++ s .line-rest; waiting = s .waiting ++ text; output-rest = drop (length text) (s .output-rest) }
 
 -- One byte came.

@@ -31,10 +31,10 @@ pub fn take_byte(
     m: Progress,
 ) -> Progress
     requires { ⌜ Ready (now entries) (now levels) (now line) m ⌝ }
-    requires { ⌜ m .waiting + 33 ≤ length (now output) ⌝ }
+    requires { ⌜ m .waiting + 44 ≤ length (now output) ⌝ }
     ensures { λ r. ⌜ standing (now (entries .exit)) (now (levels .exit)) (now (line .exit)) (now (output .exit)) r ≡ taken byte (standing (now (entries .entry)) (now (levels .entry)) (now (line .entry)) (now (output .entry)) m) ⌝ }
     ensures { λ r. ⌜ Ready (now (entries .exit)) (now (levels .exit)) (now (line .exit)) r ⌝ }
-    ensures { λ r. ⌜ r .waiting ≤ m .waiting + 33 ⌝ }
+    ensures { λ r. ⌜ r .waiting ≤ m .waiting + 44 ⌝ }
 {
     if byte == LINE_FEED {
         return end_line(entries, levels, line, output, m);
@@ -57,17 +57,18 @@ pub fn end_line(
     m: Progress,
 ) -> Progress
     requires { ⌜ Ready (now entries) (now levels) (now line) m ⌝ }
-    requires { ⌜ m .waiting + 33 ≤ length (now output) ⌝ }
+    requires { ⌜ m .waiting + 44 ≤ length (now output) ⌝ }
     ensures { λ r. ⌜ standing (now (entries .exit)) (now (levels .exit)) (now (line .entry)) (now (output .exit)) r ≡ ended (standing (now (entries .entry)) (now (levels .entry)) (now (line .entry)) (now (output .entry)) m) ⌝ }
     ensures { λ r. ⌜ Ready (now (entries .exit)) (now (levels .exit)) (now (line .entry)) r ⌝ }
-    ensures { λ r. ⌜ r .waiting ≤ m .waiting + 33 ⌝ }
+    ensures { λ r. ⌜ r .waiting ≤ m .waiting + 44 ⌝ }
 {
     let size = Size {
         slots: m.slots,
         deepest: m.deepest,
     };
     let turn = run_line(&line[..m.length], entries, levels, size);
-    let waiting = print_numbers(output, m.waiting, turn.first, turn.second, turn.third);
+    let printed = turn.printed;
+    let waiting = print_numbers(output, m.waiting, printed);
     Progress {
         slots: turn.slots,
         deepest: turn.deepest,

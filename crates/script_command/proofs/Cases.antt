@@ -11,7 +11,7 @@ use Rattle.model.specs.Calls.{prepared, finish, step}
 use Rattle.tables.specs.Slots.{set-slot, slot-words}
 use Rattle.tables.specs.Rows.{row-words, level-table}
 use Rattle.tables.specs.Sound.{chain, ascend, level-sound, levels-sound, record-slots, once-each, chains-sound, entries-fit, levels-fit, table-refusal}
-use Rattle.tables.specs.Placed.{read-levels, read-state, lay, lay-all, entry-words, level-words}
+use Rattle.tables.specs.Placed.{levels-as, state-as, lay, lay-all, entry-words, level-words}
 use Rattle.make_fresh.specs.Fresh.{free-slots, made-entries, made-levels}
 use Rattle.make.specs.Make.{make-tables}
 use Rattle.lookup.specs.Lookup.{lookup-tables}
@@ -27,7 +27,7 @@ pub cases : CaseTable
 unfolding any every count select over covers sum merge iterate allowed power capacity limit fresh later merged settled joined freed single merge-state merge-level
     merge-all enter-at enter set-points wipe act-deepest crowded make-room full write no-slot buffer-due due pass-buffer pass-level pass
     still-due latest find lookup-from prepared finish step set-slot chain ascend level-sound levels-sound record-slots once-each chains-sound entries-fit
-    levels-fit table-refusal read-levels read-state lay lay-all entry-words slot-words row-words level-table level-words free-slots made-entries made-levels
+    levels-fit table-refusal levels-as state-as lay lay-all entry-words slot-words row-words level-table level-words free-slots made-entries made-levels
     make-tables lookup-tables call-tables digits decimal fields line-of bytes makes does finds command-step line-step prints
 cases = record {
   script = refl;
@@ -35,4 +35,5 @@ cases = record {
   refused-makes = refl;
   made-anew = refl;
   by-lay-date = refl;
+  priced = refl;
 }

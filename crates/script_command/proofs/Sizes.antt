@@ -10,6 +10,7 @@ use Rattle.tables.specs.Slots.{entry-length}
 use Rattle.settings.specs.declared.Settings.{Settings}
 use Rattle.settings.proofs.Allowed.{allowed-bounds}
 use Rattle.lists.proofs.Bools.{cond-elim}
+use Rattle.model.specs.declared.Tally.{Tally}
 use Rattle.model.specs.Calls.{Call}
 use Rattle.make.specs.Make.{Made, make-tables}
 use Rattle.make.proofs.Accepted.{accepting}
@@ -24,7 +25,7 @@ use Rattle.script_command.specs.Script.{is-early, carried-out, command-s
 use Rattle.script_store.specs.Coded.{Fits, memory, stepped}
 
 abbrev Small : Memory → Type 0
-Small m = (m .slots ≤ 4000) × (m .deepest ≤ 6)
+Small m = (m .slots ≤ 3275) × (m .deepest ≤ 6)
 
 abbrev LeavesSmall : Stepped → Type 0
 LeavesSmall x = Small (x .memory)
@@ -39,13 +40,13 @@ module _ (m : Memory) (small : Small m) where
       let fresh : Memory = record { entries = m .entries; levels = m .levels; slots = n; deepest = s .deepest } in
       let new = answers-alone 0 (with-tables fresh (record { entries = r .entries; levels = r .levels })) in
       let refused = answers-alone (r .refusal) m in
-      cond-elim LeavesSmall (ltb 4000 n) (answers-alone 9 m) (cond (eqb (r .refusal) 0) new refused)
+      cond-elim LeavesSmall (ltb 3275 n) (answers-alone 9 m) (cond (eqb (r .refusal) 0) new refused)
       (λ _. small)
       (λ few. cond-elim LeavesSmall (eqb (r .refusal) 0) new refused
-      (λ accepted. (ltb-false 4000 n few, allowed-bounds s (accepting e l s (eqb-true (r .refusal) 0 accepted) .settings) .deepest-high))
+      (λ accepted. (ltb-false 3275 n few, allowed-bounds s (accepting e l s (eqb-true (r .refusal) 0 accepted) .settings) .deepest-high))
       (λ _. small))
 
-  does-small : (c : Call ℕ) → LeavesSmall (does c m)
+  does-small : (c : Call Tally) → LeavesSmall (does c m)
   unfolding does
   does-small c = small
 
@@ -55,7 +56,7 @@ module _ (m : Memory) (small : Small m) where
 
   carried-out-small : (c : Command) → LeavesSmall (carried-out c m)
   carried-out-small (Make n l t b d) = makes-small n (record { deepest = l; ratio = t; buffer = b; term = d })
-  carried-out-small (Put t k v) = does-small _
+  carried-out-small (Put t k v p) = does-small _
   carried-out-small (Delete t k) = does-small _
   carried-out-small (DeleteRange t lo hi) = does-small _
   carried-out-small (DeleteRangeDated t lo hi s) = does-small _

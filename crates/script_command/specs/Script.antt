@@ -12,7 +12,7 @@ use Rattle.script_store.specs.Memory.{Memory, Stepped, answers-alone, makes, do
 
 abbrev pub is-make : Command → Bool
 is-make (Make n l t b d) = true
-is-make (Put t k v) = false
+is-make (Put t k v p) = false
 is-make (Delete t k) = false
 is-make (DeleteRange t lo hi) = false
 is-make (DeleteRangeDated t lo hi s) = false
@@ -20,10 +20,10 @@ is-make (Flush t) = false
 is-make (Tick t) = false
 is-make (Lookup k) = false
 
--- Request S-1: "a range delete without a date has its own clock as s".
+-- Request S-1: "a range delete without a date has its own clock as s"; request S-2: "`P` lines take the price last".
 abbrev pub carried-out : Command → Memory → Stepped
 carried-out (Make n l t b d) m = makes n (record { deepest = l; ratio = t; buffer = b; term = d }) m
-carried-out (Put t k v) m = does (record { clock = t; op = written (put k v) }) m
+carried-out (Put t k v p) m = does (record { clock = t; op = written (put k (record { count = v; price = p })) }) m
 carried-out (Delete t k) m = does (record { clock = t; op = written (delete k) }) m
 carried-out (DeleteRange t lo hi) m = does (record { clock = t; op = written (delete-range lo hi t) }) m
 carried-out (DeleteRangeDated t lo hi s) m = does (record { clock = t; op = written (delete-range lo hi s) }) m

@@ -1,5 +1,6 @@
 // One line of the script, carried out in the memory that holds the store.
 use call_op::Op;
+use model::Tally;
 use script_lines::Command;
 use script_lines::Line;
 use script_lines::read_line;
@@ -10,6 +11,7 @@ use script_store::run_call;
 use script_store::run_lookup;
 use script_store::run_make;
 ghost use mathlib.Core.Path.{_≡_};
+ghost use Rattle.call_op.specs.declared.Op.the-variants.{Put};
 ghost use Rattle.script_lines.specs.Lines.{line-of};
 ghost use Rattle.script_command.specs.Script.{is-make, is-early, command-step, line-step};
 ghost use Rattle.script_store.specs.Coded.{Fits, memory, stepped};
@@ -45,12 +47,12 @@ fn run_command(command: Command, entries: &mut [u32], levels: &mut [u32], size: 
             buffer,
             term,
         ),
-        Command::Put(clock, key, value) => run_call(
+        Command::Put(clock, key, count, price) => run_call(
             entries,
             levels,
             size,
             clock,
-            Op::Put(key, value),
+            put(key, count, price),
         ),
         Command::Delete(clock, key) => run_call(entries, levels, size, clock, Op::Delete(key)),
         Command::DeleteRange(clock, lo, hi) => run_call(
@@ -73,6 +75,19 @@ fn run_command(command: Command, entries: &mut [u32], levels: &mut [u32], size: 
     }
 }
 
+// A put of a key with its count and its price.
+fn put(key: u32, count: u32, price: u32) -> Op
+    ensures { λ r. ⌜ r ≡ Put key (record { count = count; price = price }) ⌝ }
+{
+    Op::Put(
+        key,
+        Tally {
+            count: count,
+            price: price,
+        },
+    )
+}
+
 // Whether the command needs a store and there is none.
 fn is_early(command: Command, size: Size) -> bool
     ensures { λ r. ⌜ r ≡ is-early command (size .slots) ⌝ }
@@ -89,7 +104,7 @@ fn is_make(command: Command) -> bool
 {
     match command {
         Command::Make(_, _, _, _, _) => true,
-        Command::Put(_, _, _) => false,
+        Command::Put(_, _, _, _) => false,
         Command::Delete(_, _) => false,
         Command::DeleteRange(_, _, _) => false,
         Command::DeleteRangeDated(_, _, _, _) => false,

@@ -40,7 +40,7 @@ unfolding line-of
 long-unreadable [] long = refl
 long-unreadable (letter ∷ rest) long =
     let make : NoForm (fields 5 Make rest) = long-fields 5 Make rest (omega (arith, long)) in
-    let put : NoForm (fields 3 Put rest) = long-fields 3 Put rest (omega (arith, long)) in
+    let put : NoForm (fields 4 Put rest) = long-fields 4 Put rest (omega (arith, long)) in
     let delete : NoForm (fields 2 Delete rest) = long-fields 2 Delete rest (omega (arith, long)) in
     let delete-range : NoForm (fields 3 DeleteRange rest) = long-fields 3 DeleteRange rest (omega (arith, long)) in
     let delete-range-dated : NoForm (fields 4 DeleteRangeDated rest) = long-fields 4 DeleteRangeDated rest (omega (arith, long)) in

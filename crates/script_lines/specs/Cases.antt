@@ -18,9 +18,10 @@ abbrev pub says : string.String → Line → Type 0
 says text line = line-of (bytes text) ≡ line
 
 pub record FormTable : Type 0 where
-  -- "`M N L T B D` makes, `P t k v` puts, `D t k` deletes, `R t lo hi`, `F t` flushes, `T t` ticks, `G k` looks up"
+  -- "`M N L T B D` makes, `P t k v` puts, `D t k` deletes, `R t lo hi`, `F t` flushes, `T t` ticks, `G k` looks up";
+  -- request S-2: "`P` lines take the price last"
   pub make : says "M 6 3 2 2 9" (Is (Make 6 3 2 2 9))
-  pub put : says "P 1 7 70" (Is (Put 1 7 70))
+  pub put : says "P 1 7 70 5" (Is (Put 1 7 70 5))
   pub delete : says "D 2 7" (Is (Delete 2 7))
   pub delete-range : says "R 3 5 65535" (Is (DeleteRange 3 5 65535))
   pub flush : says "F 10" (Is (Flush 10))
@@ -32,7 +33,7 @@ pub record FormTable : Type 0 where
   pub zero-is-a-number : says "G 0" (Is (Lookup 0))
   pub largest : says "G 4294967295" (Is (Lookup 4294967295))
   pub leading-zeros : says "G 007" (Is (Lookup 7))
-  pub ten-digits : says "P 0000000001 0000000000 0000000070" (Is (Put 1 0 70))
+  pub ten-digits : says "P 0000000001 0000000000 0000000070 0000000005" (Is (Put 1 0 70 5))
 
 pub record UnreadableTable : Type 0 where
   pub empty : says "" Unreadable
@@ -48,7 +49,7 @@ pub record UnreadableTable : Type 0 where
   pub no-digits : says "G " Unreadable
   -- "one blank between fields"
   pub leading-blank : says " G 7" Unreadable
-  pub doubled-blank : says "P 1  7 70" Unreadable
+  pub doubled-blank : says "P 1  7 70 0" Unreadable
   pub trailing-blank : says "G 7 " Unreadable
   pub no-blank : says "G7" Unreadable
   pub tab-for-blank : says "G\t7" Unreadable
@@ -62,8 +63,8 @@ pub record UnreadableTable : Type 0 where
   pub letter-alone : says "M" Unreadable
   pub make-too-few : says "M 6 3 2 2" Unreadable
   pub make-too-many : says "M 6 3 2 2 9 1" Unreadable
-  pub put-too-few : says "P 1 7" Unreadable
-  pub put-too-many : says "P 1 7 70 1" Unreadable
+  pub put-too-few : says "P 1 7 70" Unreadable
+  pub put-too-many : says "P 1 7 70 5 1" Unreadable
   pub delete-too-few : says "D 2" Unreadable
   pub delete-too-many : says "D 2 7 1" Unreadable
   pub delete-range-too-few : says "R 3 5" Unreadable

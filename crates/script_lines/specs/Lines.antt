@@ -26,12 +26,12 @@ fields (suc n) command (byte ∷ rest) =
     cond (eqb byte (code " ") && is-number ds) (fields n (command (decimal 0 ds)) (drop (length ds) rest)) Unreadable
 
 -- "`M N L T B D` makes, `P t k v` puts, `D t k` deletes, `R t lo hi`, `F t` flushes, `T t` ticks, `G k` looks up";
--- request S-1: "The script line is `Y t lo hi s`"; and else "not a line of the forms below".
+-- request S-1: "The script line is `Y t lo hi s`"; request S-2: "`P` lines take the price last"; and else "not a line of the forms below".
 unfoldable pub line-of : List ℕ → Line
 line-of [] = Unreadable
 line-of (letter ∷ rest) =
     cond (eqb letter (code "M")) (fields 5 Make rest)
-    (cond (eqb letter (code "P")) (fields 3 Put rest)
+    (cond (eqb letter (code "P")) (fields 4 Put rest)
     (cond (eqb letter (code "D")) (fields 2 Delete rest)
     (cond (eqb letter (code "R")) (fields 3 DeleteRange rest)
     (cond (eqb letter (code "Y")) (fields 4 DeleteRangeDated rest)

@@ -11,8 +11,8 @@ ghost use Rattle.script_lines.specs.Lines.{fields, line-of};
 pub enum Command {
     // The number of slots, then the settings L, T, B, D.
     Make(u32, u32, u32, u32, u32),
-    // The clock, the key and the value.
-    Put(u32, u32, u32),
+    // The clock, the key, the count and the price.
+    Put(u32, u32, u32, u32),
     // The clock and the key.
     Delete(u32, u32),
     // The clock, the first key and the last.
@@ -75,9 +75,9 @@ fn read_make(text: &[u8]) -> Line
     Line::Is(Command::Make(slots, deepest, ratio, buffer, term))
 }
 
-// `P t k v`
+// `P t k v p`
 fn read_put(text: &[u8]) -> Line
-    ensures { λ r. ⌜ r ≡ fields 3 Put (drop 1 (now (text .entry))) ⌝ }
+    ensures { λ r. ⌜ r ≡ fields 4 Put (drop 1 (now (text .entry))) ⌝ }
 {
     let Field::Number(clock, at) = read_field(text, 1) else {
         return Line::Unreadable;
@@ -85,10 +85,13 @@ fn read_put(text: &[u8]) -> Line
     let Field::Number(key, at) = read_field(text, at) else {
         return Line::Unreadable;
     };
-    let Field::Number(value, _) = read_last(text, at) else {
+    let Field::Number(count, at) = read_field(text, at) else {
         return Line::Unreadable;
     };
-    Line::Is(Command::Put(clock, key, value))
+    let Field::Number(price, _) = read_last(text, at) else {
+        return Line::Unreadable;
+    };
+    Line::Is(Command::Put(clock, key, count, price))
 }
 
 // `D t k`

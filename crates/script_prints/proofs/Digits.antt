@@ -1,13 +1,15 @@
 -- Laws of the digits of a number.
 use mathlib.Core.Path.{_≡_, refl, ap}
 use mathlib.Core.List.{List, [], _∷_, _++_}
-use Prim.Native.Nat.{ℕ, zero, suc, _+_, _/_, _%_, _≤_, _<_}
+use Prim.Native.Nat.{ℕ, zero, suc, _+_, _*_, _/_, _%_, _≤_, _<_}
 use native.Mathlib.Omega.{arith}
 use borrow.Author.Tests.{lt-ltb, le-ltb, ltb-true, ltb-false}
 use lib.Dec.{ltb}
 use lib.ListN.{length, length-append}
 use Rattle.lists.proofs.Bools.{by-cases}
-use Rattle.script_prints.specs.Texts.{digits-within, decimal-text, field-text, numbers-text}
+use Rattle.script_prints.specs.declared.Printed.{Printed}
+use Rattle.script_prints.specs.declared.Printed.the-variants.{Three, Four}
+use Rattle.script_prints.specs.Texts.{digits-within, decimal-text, field-text, numbers-of, numbers-text}
 
 abbrev pub last-digit : ℕ → List ℕ
 last-digit n = (48 + n % 10) ∷ []
@@ -46,14 +48,18 @@ length-decimal n = length-digits 10 n
 pub length-field : (n ending : ℕ) → length (field-text n ending) ≤ 11
 length-field n ending = omega (arith, length-snoc (decimal-text n) ending, length-decimal n)
 
--- The room that a line takes at most.
-pub length-numbers : (first second third : ℕ) → length (numbers-text first second third) ≤ 33
+-- The room that so many numbers take at most.
+pub length-numbers : (numbers : List ℕ) → length (numbers-text numbers) ≤ 11 * length numbers
 unfolding numbers-text
-length-numbers first second third =
-    let one = field-text first 32 in
-    let two = field-text second 32 in
-    let three = field-text third 10 in
-    omega (arith, length-append one (two ++ three), length-append two three, length-field first 32, length-field second 32, length-field third 10)
+length-numbers [] = omega arith
+length-numbers (last ∷ []) = length-field last 10
+length-numbers (first ∷ second ∷ rest) =
+    omega (arith, length-append (field-text first 32) (numbers-text (second ∷ rest)), length-field first 32, length-numbers (second ∷ rest))
+
+-- The room that a line takes at most.
+pub length-printed : (printed : Printed) → length (numbers-text (numbers-of printed)) ≤ 44
+length-printed (Three first second third) = omega (arith, length-numbers (numbers-of (Three first second third)))
+length-printed (Four first second third fourth) = length-numbers (numbers-of (Four first second third fourth))
 
 -- As many digits as there are make the number whole.
 pub digits-exact : (most n : ℕ) → digits-within (length (digits-within most n)) n ≡ digits-within most n

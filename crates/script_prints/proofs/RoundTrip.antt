@@ -58,11 +58,15 @@ unfoldable pub bytes : string.String → List ℕ
 bytes string.[] = []
 bytes (string._∷_ c rest) = code c ∷ bytes rest
 
--- A line of document 01's output, and the longest.
-pub line-example : numbers-text 0 1 71 ≡ bytes "0 1 71\n"
+-- Two lines of document 01's output, and the longest.
+pub line-example : numbers-text (0 ∷ 1 ∷ 1 ∷ []) ≡ bytes "0 1 1\n"
 unfolding decimal-text digits-within numbers-text bytes
 line-example = refl
 
-pub longest-line : numbers-text 4294967295 4294967295 4294967295 ≡ bytes "4294967295 4294967295 4294967295\n"
+pub lookup-example : numbers-text (0 ∷ 1 ∷ 71 ∷ 0 ∷ []) ≡ bytes "0 1 71 0\n"
+unfolding decimal-text digits-within numbers-text bytes
+lookup-example = refl
+
+pub longest-line : numbers-text (4294967295 ∷ 4294967295 ∷ 4294967295 ∷ 4294967295 ∷ []) ≡ bytes "4294967295 4294967295 4294967295 4294967295\n"
 unfolding decimal-text digits-within numbers-text bytes
 longest-line = refl

@@ -5,6 +5,8 @@ use Prim.Native.Char.{code}
 use Prim.Native.Nat.{ℕ, zero, suc, _+_, _/_, _%_}
 use lib.Dec.{ltb}
 use lib.ListN.{length, take, drop}
+use Rattle.script_prints.specs.declared.Printed.{Printed}
+use Rattle.script_prints.specs.declared.Printed.the-variants.{Three, Four}
 
 -- The digits of n in decimal, the most significant first, where they are at most so many: the digits of n / 10, if n has more than one, then the last.
 unfoldable pub digits-within : ℕ → ℕ → List ℕ
@@ -19,9 +21,16 @@ decimal-text n = digits-within 10 n
 abbrev pub field-text : ℕ → ℕ → List ℕ
 field-text n ending = decimal-text n ++ (ending ∷ [])
 
--- "Each line prints three numbers"
-unfoldable pub numbers-text : ℕ → ℕ → ℕ → List ℕ
-numbers-text first second third = field-text first (code " ") ++ (field-text second (code " ") ++ field-text third (code "\n"))
+-- "Each line prints three numbers"; request S-2: "`G` lines print it as a fourth number".
+abbrev pub numbers-of : Printed → List ℕ
+numbers-of (Three first second third) = first ∷ second ∷ third ∷ []
+numbers-of (Four first second third fourth) = first ∷ second ∷ third ∷ fourth ∷ []
+
+-- One blank between the numbers, and a line feed at the end.
+unfoldable pub numbers-text : List ℕ → List ℕ
+numbers-text [] = []
+numbers-text (last ∷ []) = field-text last (code "\n")
+numbers-text (first ∷ second ∷ rest) = field-text first (code " ") ++ numbers-text (second ∷ rest)
 
 -- The bytes with a text in place of those from a position on.
 unfoldable pub overwrite : List ℕ → ℕ → List ℕ → List ℕ

@@ -1,14 +1,36 @@
-// Prints what a line of the script answers: three numbers in decimal.
+// Prints what a line of the script answers: three numbers in decimal, or four.
+ghost use mathlib.Core.List.{[], _∷_};
 ghost use mathlib.Core.Path.{_≡_};
 ghost use Prim.Native.Nat.{_+_, _≤_};
 ghost use lib.ListN.{length};
-ghost use Rattle.script_prints.specs.Texts.{decimal-text, field-text, numbers-text, overwrite};
+ghost use Rattle.script_prints.specs.Texts.{decimal-text, field-text, numbers-of, numbers-text, overwrite};
 
-// Prints three numbers from a position on, one blank between them and a line feed at the end. Answers the position after them.
-pub fn print_numbers(out: &mut [u8], at: usize, first: u32, second: u32, third: u32) -> usize
+// The numbers that a line prints.
+pub enum Printed {
+    Three(u32, u32, u32),
+    Four(u32, u32, u32, u32),
+}
+
+// Prints the numbers of a line from a position on, one blank between them and a line feed at the end. Answers the position after them.
+pub fn print_numbers(out: &mut [u8], at: usize, printed: Printed) -> usize
+    requires { ⌜ at + 44 ≤ length (now out) ⌝ }
+    ensures { λ r. ⌜ r ≡ at + length (numbers-text (numbers-of printed)) ⌝ }
+    ensures { λ _. ⌜ now (out .exit) ≡ overwrite (now (out .entry)) at (numbers-text (numbers-of printed)) ⌝ }
+{
+    match printed {
+        Printed::Three(first, second, third) => print_three(out, at, first, second, third),
+        Printed::Four(first, second, third, fourth) => {
+            let at = print_field(out, at, first, b' ');
+            print_three(out, at, second, third, fourth)
+        }
+    }
+}
+
+// Prints the last three numbers of a line.
+fn print_three(out: &mut [u8], at: usize, first: u32, second: u32, third: u32) -> usize
     requires { ⌜ at + 33 ≤ length (now out) ⌝ }
-    ensures { λ r. ⌜ r ≡ at + length (numbers-text first second third) ⌝ }
-    ensures { λ _. ⌜ now (out .exit) ≡ overwrite (now (out .entry)) at (numbers-text first second third) ⌝ }
+    ensures { λ r. ⌜ r ≡ at + length (numbers-text (first ∷ second ∷ third ∷ [])) ⌝ }
+    ensures { λ _. ⌜ now (out .exit) ≡ overwrite (now (out .entry)) at (numbers-text (first ∷ second ∷ third ∷ [])) ⌝ }
 {
     let at = print_field(out, at, first, b' ');
     let at = print_field(out, at, second, b' ');

@@ -31,26 +31,26 @@ not-made-where-refused e l s =
     (λ _ _. refl)
 
 module _ {e l : List ℕ} {size : Size} (fits : Fits e l size) (n : ℕ) (s : Settings) where
-  pub too-many : 4000 < n → answers-alone 9 (memory e l size) ≡ makes n s (memory e l size)
+  pub too-many : 3275 < n → answers-alone 9 (memory e l size) ≡ makes n s (memory e l size)
   unfolding makes
-  too-many many = rw (lt-ltb 4000 n many)
+  too-many many = rw (lt-ltb 3275 n many)
 
   abbrev fresh : Memory
   fresh = record { entries = e; levels = l; slots = n; deepest = s .deepest }
 
-  -- What a making of at most 4,000 slots gives, by what the call answers and leaves.
+  -- What a making of at most 3,275 slots gives, by what the call answers and leaves.
   abbrev outcome : Made → Stepped
   outcome r =
       cond (eqb (r .refusal) 0)
       (answers-alone 0 (with-tables fresh (record { entries = r .entries; levels = r .levels })))
       (answers-alone (r .refusal) (memory e l size))
 
-  makes-few : n ≤ 4000 → outcome (make-tables (take (entry-length n) e) (take (level-room (s .deepest)) l) s) ≡ makes n s (memory e l size)
+  makes-few : n ≤ 3275 → outcome (make-tables (take (entry-length n) e) (take (level-room (s .deepest)) l) s) ≡ makes n s (memory e l size)
   unfolding makes
-  makes-few few = rw (le-ltb 4000 n few)
+  makes-few few = rw (le-ltb 3275 n few)
 
   -- A making that is lent so many words and rows, of which p and q are what it leaves.
-  module _ (few : n ≤ 4000) {words rows : ℕ} (words-are : words ≡ entry-length n) (rows-are : rows ≡ level-room (s .deepest)) (number : ℕ) (p q : List ℕ)
+  module _ (few : n ≤ 3275) {words rows : ℕ} (words-are : words ≡ entry-length n) (rows-are : rows ≡ level-room (s .deepest)) (number : ℕ) (p q : List ℕ)
       (tells : record { refusal = number; entries = p; levels = q } ≡ make-tables (take words e) (take rows l) s) where
     makes-told : outcome (record { refusal = number; entries = p; levels = q }) ≡ makes n s (memory e l size)
     makes-told = ap outcome (tells ∙ (λ i. make-tables (take (words-are i) e) (take (rows-are i) l) s)) ∙ makes-few few

@@ -34,7 +34,7 @@ level-room-most deepest =
 
 module _ {e l : List ℕ} {size : Size} (fits : Fits e l size) where
   -- There is room for what a making is lent.
-  pub make-entry-part : {n words : ℕ} → words ≡ entry-length n → n ≤ 4000 → words ≤ length e
+  pub make-entry-part : {n words : ℕ} → words ≡ entry-length n → n ≤ 3275 → words ≤ length e
   make-entry-part are few = let room = fits .entry-room in omega arith
 
   pub make-level-part : (deepest : ℕ) {rows : ℕ} → rows ≡ level-room deepest → rows ≤ length l

@@ -1,19 +1,20 @@
-// A store in memory for 4,000 slots and 6 levels: its size, and the calls on it, each with the three numbers that it prints.
+// A store in memory for 3,275 slots and 6 levels: its size, and the calls on it, each with the numbers that it prints.
 use call_any::call;
 use call_op::Op;
 use lookup::Answer;
 use lookup::lookup;
 use make::make;
+use script_prints::Printed;
 use table_levels::level_length;
 use table_slots::entry_length;
 ghost use mathlib.Core.Path.{_≡_};
 ghost use Prim.Native.Nat.{_≤_};
 ghost use Rattle.call_op.specs.Ops.{op-of};
 ghost use Rattle.script_store.specs.Memory.{level-room, makes, does, finds};
-ghost use Rattle.script_store.specs.Coded.{Fits, memory, stepped, counting};
+ghost use Rattle.script_store.specs.Coded.{Fits, memory, stepped, answering, counting, finding};
 
 // The most slots of a store in a script.
-const MOST_SLOTS: u32 = 4000;
+const MOST_SLOTS: u32 = 3275;
 
 // The deepest level that a store can have.
 const DEEPEST: u32 = 6;
@@ -24,25 +25,21 @@ pub struct Size {
     pub deepest: usize,
 }
 
-// The store's size after a line, and the three numbers that the line prints.
+// The store's size after a line, and the numbers that the line prints.
 pub struct Turn {
     pub slots: usize,
     pub deepest: usize,
-    pub first: u32,
-    pub second: u32,
-    pub third: u32,
+    pub printed: Printed,
 }
 
-// A number with zeros, and the store as it was.
+// A number with two zeros, and the store as it was.
 pub fn alone(first: u32, size: Size) -> Turn
-    ensures { λ r. ⌜ r ≡ record { slots = size .slots; deepest = size .deepest; first = first; second = 0; third = 0 } ⌝ }
+    ensures { λ r. ⌜ r ≡ answering size first ⌝ }
 {
     Turn {
         slots: size.slots,
         deepest: size.deepest,
-        first: first,
-        second: 0,
-        third: 0,
+        printed: Printed::Three(first, 0, 0),
     }
 }
 
@@ -53,9 +50,18 @@ pub fn counted(answer: call_end::Answer, size: Size) -> Turn
     Turn {
         slots: size.slots,
         deepest: size.deepest,
-        first: answer.refusal,
-        second: answer.merges,
-        third: answer.purged,
+        printed: Printed::Three(answer.refusal, answer.merges, answer.purged),
+    }
+}
+
+// What a lookup answers: the number of its refusal, whether the key is found, its count and its price.
+fn looked_up(answer: Answer) -> Printed
+    ensures { λ r. ⌜ r ≡ finding answer ⌝ }
+{
+    match answer {
+        Answer::Refused(number) => Printed::Four(number, 0, 0, 0),
+        Answer::Absent => Printed::Four(0, 0, 0, 0),
+        Answer::Found(tally, _) => Printed::Four(0, 1, tally.count, tally.price),
     }
 }
 
@@ -102,9 +108,7 @@ pub fn run_make(
     Turn {
         slots: slots as usize,
         deepest: deepest as usize,
-        first: 0,
-        second: 0,
-        third: 0,
+        printed: Printed::Three(0, 0, 0),
     }
 }
 
@@ -119,22 +123,17 @@ pub fn run_call(entries: &mut [u32], levels: &mut [u32], size: Size, clock: u32,
     counted(answer, size)
 }
 
-// Looks one key up: whether it is found, and its value.
+// Looks one key up, and prints four numbers.
 pub fn run_lookup(entries: &[u32], levels: &[u32], size: Size, key: u32) -> Turn
     requires { ⌜ Fits (now entries) (now levels) size ⌝ }
     ensures { λ r. ⌜ stepped (now (entries .entry)) (now (levels .entry)) r ≡ finds key (memory (now (entries .entry)) (now (levels .entry)) size) ⌝ }
 {
     let words = entry_length(size.slots);
     let rows = level_length(size.deepest);
-    match lookup(&entries[..words], &levels[..rows], key) {
-        Answer::Refused(number) => alone(number, size),
-        Answer::Absent => alone(0, size),
-        Answer::Found(value, _) => Turn {
-            slots: size.slots,
-            deepest: size.deepest,
-            first: 0,
-            second: 1,
-            third: value,
-        },
+    let answer = lookup(&entries[..words], &levels[..rows], key);
+    Turn {
+        slots: size.slots,
+        deepest: size.deepest,
+        printed: looked_up(answer),
     }
 }

@@ -33,7 +33,7 @@ module _ (e l line output : List ℕ) (m : Progress) where
 pub record Between (block : List ℕ) (room : ℕ) (m₀ : Progress) (goal : Standing) (e l line output : List ℕ) (m : Progress) (i : ℕ) : Type 0 where
   pub ready : Ready e l line m
   pub same-room : length output ≡ room
-  pub few : m .waiting ≤ m₀ .waiting + 33 * i
+  pub few : m .waiting ≤ m₀ .waiting + 44 * i
   pub within : i ≤ length block
   pub leads : fed (drop i block) (standing e l line output m) ≡ goal
 

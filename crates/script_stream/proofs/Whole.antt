@@ -11,9 +11,10 @@ use lib.Seq.{take-all, take-append-le, take-at, length-take-le}
 use Rattle.lists.proofs.Bools.{by-cases}
 use Rattle.script_lines.specs.Lines.{line-of}
 use Rattle.script_lines.proofs.Long.{long-unreadable}
+use Rattle.script_prints.specs.Texts.{numbers-text}
 use Rattle.script_store.specs.Memory.{Memory}
 use Rattle.script_command.specs.Script.{line-step}
-use Rattle.script_buffer.specs.Bytes.{Standing, text-of, kept, ended, taken}
+use Rattle.script_buffer.specs.Bytes.{Standing, kept, ended, taken}
 use Rattle.script_stream.specs.Input.{before-lines, lines-in, output-of}
 use Rattle.script_stream.specs.Blocks.{fed, finished, written, writes}
 
@@ -65,7 +66,7 @@ end-writes : (s : Standing) (line : List ℕ) (lines : List (List ℕ)) → s .l
 unfolding ended output-of
 end-writes s line lines is =
     rw (is, kept-says line)
-    (append-assoc (s .waiting) (text-of (line-step (line-of line) (s .memory) .printed)) (output-of (line-step (line-of line) (s .memory) .memory) lines))
+    (append-assoc (s .waiting) (numbers-text (line-step (line-of line) (s .memory) .printed)) (output-of (line-step (line-of line) (s .memory) .memory) lines))
 
 -- The input ended within a line, or after one.
 finish-writes : (s : Standing) (line : List ℕ) → s .line ≡ take 64 line → finished s .waiting ≡ with-lines s (begun-line line [])

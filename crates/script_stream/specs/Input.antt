@@ -5,9 +5,9 @@ use Prim.Native.Char.{code}
 use Prim.Native.Nat.{ℕ}
 use lib.Dec.{eqb}
 use Rattle.script_lines.specs.Lines.{line-of}
+use Rattle.script_prints.specs.Texts.{numbers-text}
 use Rattle.script_store.specs.Memory.{Memory}
 use Rattle.script_command.specs.Script.{line-step}
-use Rattle.script_buffer.specs.Bytes.{text-of}
 
 -- A byte before the first of the lines, which is a line of its own if there is none.
 unfoldable pub before-lines : ℕ → List (List ℕ) → List (List ℕ)
@@ -24,4 +24,4 @@ unfoldable pub output-of : Memory → List (List ℕ) → List ℕ
 output-of m [] = []
 output-of m (line ∷ lines) =
     let r = line-step (line-of line) m in
-    text-of (r .printed) ++ output-of (r .memory) lines
+    numbers-text (r .printed) ++ output-of (r .memory) lines

@@ -3,6 +3,7 @@ use mathlib.Core.Path.{_≡_}
 use mathlib.Core.List.{List}
 use Prim.Native.Nat.{ℕ, suc, _≤_}
 use lib.ListN.{length}
+use Rattle.model.specs.declared.Tally.{Tally}
 use Rattle.model.specs.Records.{State, held-all}
 use Rattle.tables.specs.Rows.{Row, level-row}
 use Rattle.tables.specs.Placed.{level-words}
@@ -18,7 +19,7 @@ abbrev pub row-at : Level → Row
 row-at v = record { points = v .points; ranges = v .ranges; held = v .held; owed = v .owed }
 
 -- The level table of a state whose records the slots can hold.
-pub record RowsAre (p : State ℕ ℕ) (l : List ℕ) : Type 0 where
+pub record RowsAre (p : State ℕ Tally) (l : List ℕ) : Type 0 where
   pub levels : l ≡ level-words p
   pub size : length (p .levels) ≡ suc (p .settings .deepest)
   pub few : held-all (p .levels) ≤ 65535

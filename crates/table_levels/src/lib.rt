@@ -4,6 +4,7 @@ use settings::Settings;
 ghost use mathlib.Core.Path.{_≡_};
 ghost use Prim.Native.Nat.{ℕ, _≤_};
 ghost use lib.ListN.{length};
+ghost use Rattle.model.specs.declared.Tally.{Tally};
 ghost use Rattle.lists.specs.All.{Exists};
 ghost use Rattle.model.specs.Records.{State, held-all};
 ghost use Rattle.model.specs.Merge.{earlier};
@@ -110,7 +111,7 @@ pub fn earlier(a: u32, b: u32) -> u32
 // The number of records of all levels.
 pub fn held_all(l: &[u32]) -> u32
     requires { ⌜ Exists (λ p. RowsAre p (now l)) ⌝ }
-    ensures { λ r. ⌜ ((p : State ℕ ℕ) → RowsAre p (now (l .entry)) → r ≡ held-all (p .levels)) ⌝ }
+    ensures { λ r. ⌜ ((p : State ℕ Tally) → RowsAre p (now (l .entry)) → r ≡ held-all (p .levels)) ⌝ }
 {
     let levels = deepest_of(l) + 1;
     let mut held = 0;

@@ -1,8 +1,9 @@
 // The words of the entry table: a slot read and written, slot 0 included, and how many slots there are.
+use model::Tally;
 ghost use mathlib.Core.Path.{_≡_};
 ghost use Prim.Native.Nat.{_<_, _≤_};
-ghost use Rattle.tables.specs.Slots.{entry-length, slots-of, InTable, slot-at, set-slot, link-to, span-from, next-of, kind-of, span-of, lo-of, hi-of, tally-of, date-of, stamp-of, free-slot, top-slot, first-free, clock-of, with-link, with-clock, with-value};
-ghost use Rattle.tables.specs.Sound.{order-key, top-blank, entries-fit};
+ghost use Rattle.tables.specs.Slots.{entry-length, slots-of, InTable, slot-at, set-slot, link-to, span-from, next-of, kind-of, span-of, lo-of, hi-of, tally-of, count-of, price-of, date-of, stamp-of, free-slot, top-slot, first-free, clock-of, with-link, with-clock, with-tally, with-date};
+ghost use Rattle.tables.specs.Sound.{is-untallied, order-key, top-blank, entries-fit};
 
 // The kinds of records; a free slot has kind 0.
 pub const FREE: u32 = 0;
@@ -14,7 +15,7 @@ pub const DELETE: u32 = 2;
 pub const RANGE: u32 = 3;
 
 // Words a slot.
-const WORDS: usize = 4;
+const WORDS: usize = 5;
 
 // The most slots that an entry table can have.
 const MOST: usize = 65535;
@@ -58,11 +59,28 @@ pub fn hi_of(e: &[u32], slot: usize) -> u32
     e[WORDS * slot + 1] / BASE
 }
 
-pub fn tally_of(e: &[u32], slot: usize) -> u32
+pub fn tally_of(e: &[u32], slot: usize) -> Tally
     requires { ⌜ InTable (now e) slot ⌝ }
     ensures { λ r. ⌜ r ≡ tally-of (now (e .entry)) slot ⌝ }
 {
+    Tally {
+        count: count_of(e, slot),
+        price: price_of(e, slot),
+    }
+}
+
+pub fn count_of(e: &[u32], slot: usize) -> u32
+    requires { ⌜ InTable (now e) slot ⌝ }
+    ensures { λ r. ⌜ r ≡ count-of (now (e .entry)) slot ⌝ }
+{
     e[WORDS * slot + 2]
+}
+
+pub fn price_of(e: &[u32], slot: usize) -> u32
+    requires { ⌜ InTable (now e) slot ⌝ }
+    ensures { λ r. ⌜ r ≡ price-of (now (e .entry)) slot ⌝ }
+{
+    e[WORDS * slot + 4]
 }
 
 // Word 2 of a range delete.
@@ -70,7 +88,18 @@ pub fn date_of(e: &[u32], slot: usize) -> u32
     requires { ⌜ InTable (now e) slot ⌝ }
     ensures { λ r. ⌜ r ≡ date-of (now (e .entry)) slot ⌝ }
 {
-    tally_of(e, slot)
+    count_of(e, slot)
+}
+
+// Neither count nor price.
+pub fn is_untallied(e: &[u32], slot: usize) -> bool
+    requires { ⌜ InTable (now e) slot ⌝ }
+    ensures { λ r. ⌜ r ≡ is-untallied (now (e .entry)) slot ⌝ }
+{
+    if count_of(e, slot) != 0 {
+        return false;
+    }
+    price_of(e, slot) == 0
 }
 
 pub fn stamp_of(e: &[u32], slot: usize) -> u32
@@ -110,10 +139,10 @@ pub fn is_top_blank(e: &[u32]) -> bool
     requires { ⌜ InTable (now e) 0 ⌝ }
     ensures { λ r. ⌜ r ≡ top-blank (now (e .entry)) ⌝ }
 {
-    if e[2] != 0 {
+    if !is_untallied(e, 0) {
         return false;
     }
-    e[3] == 0
+    stamp_of(e, 0) == 0
 }
 
 // Writes the next slot and the kind, which is stacked on it.
@@ -126,17 +155,27 @@ pub fn set_link(e: &mut [u32], slot: usize, next: usize, kind: u32)
     e[WORDS * slot] = next as u32 + BASE * kind;
 }
 
-// A put over a put changes no more than these two, nor does a range that takes a later date and stamp.
-pub fn set_value(e: &mut [u32], slot: usize, value: u32, stamp: u32)
+// A put over a put changes no more than these.
+pub fn set_tally(e: &mut [u32], slot: usize, tally: Tally, stamp: u32)
     requires { ⌜ InTable (now e) slot ⌝ }
-    ensures { λ _. ⌜ now (e .exit) ≡ set-slot (now (e .entry)) slot (with-value value stamp (slot-at (now (e .entry)) slot)) ⌝ }
+    ensures { λ _. ⌜ now (e .exit) ≡ set-slot (now (e .entry)) slot (with-tally tally stamp (slot-at (now (e .entry)) slot)) ⌝ }
 {
-    e[WORDS * slot + 2] = value;
+    e[WORDS * slot + 2] = tally.count;
+    e[WORDS * slot + 3] = stamp;
+    e[WORDS * slot + 4] = tally.price;
+}
+
+// Nor does a range that takes a later date and stamp change more than these two.
+pub fn set_date(e: &mut [u32], slot: usize, date: u32, stamp: u32)
+    requires { ⌜ InTable (now e) slot ⌝ }
+    ensures { λ _. ⌜ now (e .exit) ≡ set-slot (now (e .entry)) slot (with-date date stamp (slot-at (now (e .entry)) slot)) ⌝ }
+{
+    e[WORDS * slot + 2] = date;
     e[WORDS * slot + 3] = stamp;
 }
 
 // Writes a record that no slot comes after.
-pub fn set_record(e: &mut [u32], slot: usize, kind: u32, lo: u32, hi: u32, tally: u32, stamp: u32)
+pub fn set_record(e: &mut [u32], slot: usize, kind: u32, lo: u32, hi: u32, tally: Tally, stamp: u32)
     requires { ⌜ InTable (now e) slot ⌝ }
     requires { ⌜ kind < 65536 ⌝ }
     requires { ⌜ (lo < 65536) × (hi < 65536) ⌝ }
@@ -151,7 +190,7 @@ pub fn set_free(e: &mut [u32], slot: usize, next: usize)
     requires { ⌜ next ≤ 4294967295 ⌝ }
     ensures { λ _. ⌜ now (e .exit) ≡ set-slot (now (e .entry)) slot (free-slot next) ⌝ }
 {
-    set_slot(e, slot, next as u32, 0, 0, 0);
+    set_slot(e, slot, next as u32, 0, Tally { count: 0, price: 0 }, 0);
 }
 
 // Slot 0 of a fresh store: the first free slot, and no clock.
@@ -160,7 +199,7 @@ pub fn set_top(e: &mut [u32], first: usize)
     requires { ⌜ first ≤ 65535 ⌝ }
     ensures { λ _. ⌜ now (e .exit) ≡ set-slot (now (e .entry)) 0 (top-slot first 0) ⌝ }
 {
-    set_slot(e, 0, first as u32, 0, 0, 0);
+    set_slot(e, 0, first as u32, 0, Tally { count: 0, price: 0 }, 0);
 }
 
 pub fn set_first_free(e: &mut [u32], first: usize)
@@ -213,12 +252,11 @@ pub fn entries_fit(entries: &[u32]) -> bool
 }
 
 // Writes all words of one slot.
-fn set_slot(e: &mut [u32], slot: usize, link: u32, span: u32, tally: u32, stamp: u32)
+fn set_slot(e: &mut [u32], slot: usize, link: u32, span: u32, tally: Tally, stamp: u32)
     requires { ⌜ InTable (now e) slot ⌝ }
     ensures { λ _. ⌜ now (e .exit) ≡ set-slot (now (e .entry)) slot (record { link = link; span = span; tally = tally; stamp = stamp }) ⌝ }
 {
     e[WORDS * slot] = link;
     e[WORDS * slot + 1] = span;
-    e[WORDS * slot + 2] = tally;
-    e[WORDS * slot + 3] = stamp;
+    set_tally(e, slot, tally, stamp);
 }

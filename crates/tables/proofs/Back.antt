@@ -7,12 +7,13 @@ use lib.ListN.{length, getD, length-append, length-map}
 use Rattle.settings.specs.declared.Settings.{Settings}
 use Rattle.lists.specs.All.{All}
 use Rattle.lists.proofs.Tests.{all-left, all-right}
+use Rattle.model.specs.declared.Tally.{Tally}
 use Rattle.model.specs.Records.{Point, Range, Level, State, empty}
 use Rattle.model.specs.Merge.{point-slots, range-slots}
 use Rattle.tables.specs.Slots.{Slot, first-free, clock-of}
 use Rattle.tables.specs.Rows.{settings-of, Row, level-row}
 use Rattle.tables.specs.Sound.{chain-from}
-use Rattle.tables.specs.Placed.{Cell, free-cell, point-cell, range-cell, level-chains, all-chains, entry-words, level-words, row-of-level, read-point, read-range, read-level, read-levels, read-state, top-of}
+use Rattle.tables.specs.Placed.{Cell, free-cell, point-cell, range-cell, level-chains, all-chains, entry-words, level-words, row-of-level, read-point, read-range, read-level, read-levels, read-state, top-of, levels-as, state-as}
 use Rattle.tables.specs.Formed.{LevelFormed, levels-slots, Formed}
 use Rattle.tables.proofs.Cells.{Chained, AllChained, cell-slots, chain-slots, Holds, Slots, AllSlots, holds-one}
 use Rattle.tables.proofs.Once.{OnceFacts, once-facts, Inside, once-inside, once-most}
@@ -21,7 +22,7 @@ use Rattle.tables.proofs.Reading.{chain-reads, free-slots-back, points-
 use Rattle.tables.proofs.Rows.{settings-back, level-row-at}
 
 -- The slots of a state's chains are its free slots and its records'.
-pub point-cell-slots : (ps : List (Point ℕ ℕ)) → cell-slots (map point-cell ps) ≡ point-slots ps
+pub point-cell-slots : (ps : List (Point ℕ Tally)) → cell-slots (map point-cell ps) ≡ point-slots ps
 point-cell-slots [] = refl
 point-cell-slots (p ∷ ps) = ap (_∷_ (p .slot)) (point-cell-slots ps)
 
@@ -29,13 +30,13 @@ pub range-cell-slots : (rs : List (Range ℕ)) → cell-slots (map range-cell rs
 range-cell-slots [] = refl
 range-cell-slots (r ∷ rs) = ap (_∷_ (r .slot)) (range-cell-slots rs)
 
-level-chain-slots : (ls : List (Level ℕ ℕ)) → chain-slots (level-chains ls) ≡ levels-slots ls
+level-chain-slots : (ls : List (Level ℕ Tally)) → chain-slots (level-chains ls) ≡ levels-slots ls
 level-chain-slots [] = refl
 level-chain-slots (l ∷ ls) =
     rw (point-cell-slots (l .points), range-cell-slots (l .ranges), level-chain-slots ls)
     (sym (append-assoc (point-slots (l .points)) (range-slots (l .ranges)) (levels-slots ls)))
 
-pub all-chain-slots : (p : State ℕ ℕ) → chain-slots (all-chains p) ≡ p .free ++ levels-slots (p .levels)
+pub all-chain-slots : (p : State ℕ Tally) → chain-slots (all-chains p) ≡ p .free ++ levels-slots (p .levels)
 all-chain-slots p = rw (free-slots-back (p .free), level-chain-slots (p .levels))
 
 -- All slots inside the table, chain by chain.
@@ -48,7 +49,7 @@ all-slots-inside n [] a = tt
 all-slots-inside n (c ∷ cs) a =
     (slots-inside n c (all-left (Inside n) (cell-slots c) (chain-slots cs) a), all-slots-inside n cs (all-right (Inside n) (cell-slots c) (chain-slots cs) a))
 
-module _ (n : ℕ) (p : State ℕ ℕ) (f : Formed n p) where
+module _ (n : ℕ) (p : State ℕ Tally) (f : Formed n p) where
   pub formed-once : OnceFacts n (chain-slots (all-chains p))
   formed-once = rw (all-chain-slots p) (once-facts n (p .free ++ levels-slots (p .levels)) (f .slots-once))
 
@@ -76,7 +77,7 @@ short-all k (c ∷ cs) h = (
 
 -- Reading a level, and all levels, of a table that holds their chains.
 module _ (n : ℕ) (small : n < 65536) (clock : ℕ) (e l : List ℕ) where
-  level-back : (i : ℕ) (v : Level ℕ ℕ) → LevelFormed clock v → level-row l i ≡ row-of-level v → Chained n e (map point-cell (v .points))
+  level-back : (i : ℕ) (v : Level ℕ Tally) → LevelFormed clock v → level-row l i ≡ row-of-level v → Chained n e (map point-cell (v .points))
       → Chained n e (map range-cell (v .ranges))
       → length (map point-cell (v .points)) ≤ length e → length (map range-cell (v .ranges)) ≤ length e → read-level e l i ≡ v
   level-back i v f r cp cr lp lr =
@@ -88,9 +89,9 @@ module _ (n : ℕ) (small : n < 65536) (clock : ℕ) (e l : List ℕ) where
       ∙ ap (map (read-range e)) (chain-reads n (length e) e (map range-cell (v .ranges)) small cr lr) ∙ ranges-back n e small (v .ranges) (f .spans) cr in
       rw (ps, rs, ap (λ (x : Row). x .owed) r)
 
-  levels-back : (vs : List (Level ℕ ℕ)) (i : ℕ) → ((m : ℕ) → m < length vs → level-row l (i + m) ≡ row-of-level (getD vs m empty)) → All (LevelFormed clock) vs
+  levels-back : (vs : List (Level ℕ Tally)) (i : ℕ) → ((m : ℕ) → m < length vs → level-row l (i + m) ≡ row-of-level (getD vs m empty)) → All (LevelFormed clock) vs
       → AllChained n e (level-chains vs) → Short (length e) (level-chains vs) → read-levels e l (length vs) i ≡ vs
-  unfolding read-levels
+  unfolding levels-as
   levels-back [] i rows f c s = refl
   levels-back (v ∷ vs) i rows f c s =
       let here : level-row l i ≡ row-of-level v = ap (level-row l) (omega arith) ∙ rows 0 (omega arith) in
@@ -98,10 +99,10 @@ module _ (n : ℕ) (small : n < 65536) (clock : ℕ) (e l : List ℕ) where
       levels-back vs (suc i) (λ m h. ap (level-row l) (omega arith) ∙ rows (suc m) (omega arith)) (f .1) (c .1 .1) (s .1 .1) in
       rw (level-back i v (f .0) here (c .0) (c .1 .0) (s .0) (s .1 .0), rest)
 
-module _ (n : ℕ) (p : State ℕ ℕ) (f : Formed n p) where
+module _ (n : ℕ) (p : State ℕ Tally) (f : Formed n p) where
   -- A table that holds a formed state's chains, with its level table, reads as that state.
   pub holds-reads : (e : List ℕ) → Holds n (top-of p) (all-chains p) e → read-state e (level-words p) ≡ p
-  unfolding read-state
+  unfolding state-as
   holds-reads e h =
       let small : n < 65536 = omega (arith, f .many) in
       let short : Short (length e) (all-chains p) = short-all (length e) (all-chains p) (omega (arith, formed-once n p f .number, h .room)) in

@@ -6,11 +6,12 @@ use Prim.Native.Nat.{ℕ, zero, suc, _≤_, _<_}
 use native.Mathlib.Omega.{arith}
 use lib.ListN.{length, getD}
 use Rattle.lists.specs.All.{All}
+use Rattle.model.specs.declared.Tally.{Tally}
 use Rattle.model.specs.Records.{Level, State, Point, Range, empty, is-put, level}
 use Rattle.tables.specs.Formed.{LevelFormed, Formed}
 
-module _ (clock : ℕ) (l : Level ℕ ℕ) (f : LevelFormed clock l) (z : l .owed ≡ 0) where
-  only-puts : (ps : List (Point ℕ ℕ)) → All (λ p. is-put (p .entry) ≡ false → (1 ≤ l .owed) × (l .owed ≤ p .stamp)) ps → All (λ p. is-put (p .entry) ≡ true) ps
+module _ (clock : ℕ) (l : Level ℕ Tally) (f : LevelFormed clock l) (z : l .owed ≡ 0) where
+  only-puts : (ps : List (Point ℕ Tally)) → All (λ p. is-put (p .entry) ≡ false → (1 ≤ l .owed) × (l .owed ≤ p .stamp)) ps → All (λ p. is-put (p .entry) ≡ true) ps
   only-puts [] a = tt
   only-puts (p ∷ ps) a = (go (is-put (p .entry)) refl, only-puts ps (a .1))
     where
@@ -25,12 +26,12 @@ module _ (clock : ℕ) (l : Level ℕ ℕ) (f : LevelFormed clock l) (z : l .owe
   pub owes-nothing-puts : (All (λ p. is-put (p .entry) ≡ true) (l .points)) × (l .ranges ≡ [])
   owes-nothing-puts = (only-puts (l .points) (f .owed-points), no-range (l .ranges) (f .owed-ranges))
 
-all-at : (ls : List (Level ℕ ℕ)) (clock i : ℕ) → All (LevelFormed clock) ls → i < length ls → LevelFormed clock (getD ls i empty)
+all-at : (ls : List (Level ℕ Tally)) (clock i : ℕ) → All (LevelFormed clock) ls → i < length ls → LevelFormed clock (getD ls i empty)
 all-at [] clock i a h = absurd (omega arith)
 all-at (l ∷ ls) clock zero a h = a .0
 all-at (l ∷ ls) clock (suc i) a h = all-at ls clock i (a .1) (omega arith)
 
-pub deepest-puts : (n : ℕ) (p : State ℕ ℕ) → Formed n p
+pub deepest-puts : (n : ℕ) (p : State ℕ Tally) → Formed n p
     → (All (λ q. is-put (q .entry) ≡ true) (level (p .settings .deepest) p .points)) × (level (p .settings .deepest) p .ranges ≡ [])
 deepest-puts n p f =
     owes-nothing-puts (p .clock) (level (p .settings .deepest) p)

@@ -11,6 +11,7 @@ use Rattle.settings.specs.declared.Settings.{Settings}
 use Rattle.lists.specs.All.{All}
 use Rattle.lists.proofs.Bools.{and-intro}
 use Rattle.lists.proofs.Tests.{length-of-none, all-every-true, all-append, all-every, all-both}
+use Rattle.model.specs.declared.Tally.{Tally}
 use Rattle.model.specs.Records.{Entry, value, tombstone, Point, Range, Level, State, empty, is-put, held}
 use Rattle.model.specs.Merge.{point-slots, range-slots}
 use Rattle.tables.proofs.Linked.{top-written, top-form}
@@ -18,7 +19,7 @@ use Rattle.tables.specs.Slots.{slot-at, entry-length, slots-of, Slot, fi
 use Rattle.tables.specs.Rows.{level-length, settings-of, Row, level-row}
 use Rattle.tables.specs.Words.{Fits32}
 use Rattle.tables.specs.Sound.{free-chain, point-chain, range-chain, is-free, level-sound, levels-sound, record-slots, chains-sound, entries-fit, levels-fit, table-refusal}
-use Rattle.tables.specs.Placed.{cell-slot, free-cell, entry-kind, point-cell, range-cell, level-chains, all-chains, row-of-level, entry-words, level-words, read-level, read-state, top-of}
+use Rattle.tables.specs.Placed.{cell-slot, free-cell, entry-kind, point-cell, range-cell, level-chains, all-chains, row-of-level, entry-words, level-words, read-level, read-state, top-of, state-as}
 use Rattle.tables.specs.Formed.{LevelFormed, levels-slots, Formed}
 use Rattle.tables.proofs.Cells.{Chained, AllChained, cell-slots, Holds}
 use Rattle.tables.proofs.Once.{once-facts, facts-once}
@@ -56,18 +57,18 @@ facts-sound e l f =
     )
 
 -- The chains of level i.
-chained-at : (n : ℕ) (e : List ℕ) (ls : List (Level ℕ ℕ)) (i : ℕ) → AllChained n e (level-chains ls)
+chained-at : (n : ℕ) (e : List ℕ) (ls : List (Level ℕ Tally)) (i : ℕ) → AllChained n e (level-chains ls)
     → (Chained n e (map point-cell (getD ls i empty .points))) × (Chained n e (map range-cell (getD ls i empty .ranges)))
 chained-at n e [] i c = (tt, tt)
 chained-at n e (l ∷ ls) zero c = (c .0, c .1 .0)
 chained-at n e (l ∷ ls) (suc i) c = chained-at n e ls i (c .1 .1)
 
-formed-at : (clock : ℕ) (ls : List (Level ℕ ℕ)) (i : ℕ) → i < length ls → All (LevelFormed clock) ls → LevelFormed clock (getD ls i empty)
+formed-at : (clock : ℕ) (ls : List (Level ℕ Tally)) (i : ℕ) → i < length ls → All (LevelFormed clock) ls → LevelFormed clock (getD ls i empty)
 formed-at clock [] i h a = absurd (omega arith)
 formed-at clock (l ∷ ls) zero h a = a .0
 formed-at clock (l ∷ ls) (suc i) h a = formed-at clock ls i (omega arith) (a .1)
 
-module _ (n : ℕ) (p : State ℕ ℕ) (f : Formed n p) (e : List ℕ) (h : Holds n (top-of p) (all-chains p) e) where
+module _ (n : ℕ) (p : State ℕ Tally) (f : Formed n p) (e : List ℕ) (h : Holds n (top-of p) (all-chains p) e) where
   abbrev words : List ℕ
   words = level-words p
 
@@ -84,7 +85,7 @@ module _ (n : ℕ) (p : State ℕ ℕ) (f : Formed n p) (e : List ℕ) (h : Hold
   deepest≡ = ap (λ (s : Settings). s .deepest) (settings-back p)
 
   module _ (i : ℕ) (b : i ≤ p .settings .deepest) where
-    v : Level ℕ ℕ
+    v : Level ℕ Tally
     v = getD (p .levels) i empty
 
     in-range : i < length (p .levels)
@@ -92,7 +93,7 @@ module _ (n : ℕ) (p : State ℕ ℕ) (f : Formed n p) (e : List ℕ) (h : Hold
 
     level≡ : read-level e words i ≡ v
     unfolding v
-    level≡ = sym (read-state-level e words i (rw deepest≡ b)) ∙ ap (λ (s : State ℕ ℕ). getD (s .levels) i empty) reads
+    level≡ = sym (read-state-level e words i (rw deepest≡ b)) ∙ ap (λ (s : State ℕ Tally). getD (s .levels) i empty) reads
 
     row≡ : level-row words i ≡ row-of-level v
     unfolding v
@@ -105,10 +106,10 @@ module _ (n : ℕ) (p : State ℕ ℕ) (f : Formed n p) (e : List ℕ) (h : Hold
     number≡ = ap (λ (r : Row). r .held) row≡
 
     points≡ : point-chain e words i ≡ cell-slots (map point-cell (v .points))
-    points≡ = sym (point-read-slots e (point-chain e words i)) ∙ ap (λ (x : Level ℕ ℕ). point-slots (x .points)) level≡ ∙ sym (point-cell-slots (v .points))
+    points≡ = sym (point-read-slots e (point-chain e words i)) ∙ ap (λ (x : Level ℕ Tally). point-slots (x .points)) level≡ ∙ sym (point-cell-slots (v .points))
 
     ranges≡ : range-chain e words i ≡ cell-slots (map range-cell (v .ranges))
-    ranges≡ = sym (range-read-slots e (range-chain e words i)) ∙ ap (λ (x : Level ℕ ℕ). range-slots (x .ranges)) level≡ ∙ sym (range-cell-slots (v .ranges))
+    ranges≡ = sym (range-read-slots e (range-chain e words i)) ∙ ap (λ (x : Level ℕ Tally). range-slots (x .ranges)) level≡ ∙ sym (range-cell-slots (v .ranges))
 
     cp : Chained n e (map point-cell (v .points))
     unfolding v
@@ -124,18 +125,18 @@ module _ (n : ℕ) (p : State ℕ ℕ) (f : Formed n p) (e : List ℕ) (h : Hold
 
     lengths : length (cell-slots (map point-cell (v .points)) ++ cell-slots (map range-cell (v .ranges))) ≡ held v
     lengths =
-        let points = length-map (v .points) (λ (q : Point ℕ ℕ). q .slot) in
+        let points = length-map (v .points) (λ (q : Point ℕ Tally). q .slot) in
         let ranges = length-map (v .ranges) (λ (r : Range ℕ). r .slot) in
         rw (point-cell-slots (v .points), range-cell-slots (v .ranges))
         (omega (arith, length-append (point-slots (v .points)) (range-slots (v .ranges)), points, ranges))
 
-    put-one : (x : Entry ℕ) → eqb (entry-kind x) 1 ≡ false → is-put x ≡ false
+    put-one : (x : Entry Tally) → eqb (entry-kind x) 1 ≡ false → is-put x ≡ false
     put-one (value a) q = q
     put-one tombstone q = refl
 
     -- What holds of the row of every point, or of every range, holds along its chain.
-    along-points : (P : ℕ → Type 0) (Q : Point ℕ ℕ → Type 0)
-        → ((q : Point ℕ ℕ) (next : ℕ) → next ≤ n → Q q → slot-at e (q .slot) ≡ cell-slot next (point-cell q) → P (q .slot))
+    along-points : (P : ℕ → Type 0) (Q : Point ℕ Tally → Type 0)
+        → ((q : Point ℕ Tally) (next : ℕ) → next ≤ n → Q q → slot-at e (q .slot) ≡ cell-slot next (point-cell q) → P (q .slot))
         → All Q (v .points) → All P (cell-slots (map point-cell (v .points)))
     along-points P Q each all = chained-all n e small point-cell P Q each (v .points) all cp
 
@@ -171,10 +172,10 @@ module _ (n : ℕ) (p : State ℕ ℕ) (f : Formed n p) (e : List ℕ) (h : Hold
   slots≡ = omega (arith, h .room)
 
   free≡ : free-chain e ≡ p .free
-  free≡ = unfold read-state in ap (λ (s : State ℕ ℕ). s .free) reads
+  free≡ = unfold state-as in ap (λ (s : State ℕ Tally). s .free) reads
 
   records≡ : record-slots e words (suc (settings-of words .deepest)) 0 ≡ levels-slots (p .levels)
-  records≡ = sym (read-slots e words (suc (settings-of words .deepest)) 0) ∙ (unfold read-state in ap (λ (s : State ℕ ℕ). levels-slots (s .levels)) reads)
+  records≡ = sym (read-slots e words (suc (settings-of words .deepest)) 0) ∙ (unfold state-as in ap (λ (s : State ℕ Tally). levels-slots (s .levels)) reads)
 
   -- Tables that hold a formed state's chains are sound.
   pub formed-sound : Sound e (level-words p)
@@ -194,11 +195,11 @@ module _ (n : ℕ) (p : State ℕ ℕ) (f : Formed n p) (e : List ℕ) (h : Hold
   }
 
 -- The words of a formed state meet no refusal.
-pub words-sound : (n : ℕ) (p : State ℕ ℕ) → Formed n p → table-refusal (entry-words n p) (level-words p) ≡ 0
+pub words-sound : (n : ℕ) (p : State ℕ Tally) → Formed n p → table-refusal (entry-words n p) (level-words p) ≡ 0
 words-sound n p f = facts-sound (entry-words n p) (level-words p) (formed-sound n p f (entry-words n p) (formed-holds n p f))
 
 -- Tables that meet no refusal are the words of a formed state, the one that they read as.
-pub record WordsOf (e l : List ℕ) (p : State ℕ ℕ) : Type 0 where
+pub record WordsOf (e l : List ℕ) (p : State ℕ Tally) : Type 0 where
   pub formed : Formed (slots-of e) p
   pub entries : e ≡ entry-words (slots-of e) p
   pub levels : l ≡ level-words p

@@ -6,6 +6,7 @@ use native.Mathlib.Omega.{arith}
 use native.Mathlib.Decide.{ℕ-discrete}
 use lib.ListN.{length, replicate, length-replicate}
 use Rattle.lists.specs.Lists.{count}
+use Rattle.model.specs.declared.Tally.{Tally}
 use Rattle.model.specs.Records.{State}
 use Rattle.tables.specs.Slots.{entry-length, Slot, set-slot}
 use Rattle.tables.specs.Placed.{Cell, head, lay, lay-all, all-chains, entry-words, cell-slot, top-of}
@@ -79,7 +80,7 @@ unfolding count
 no-zeros n [] b = refl
 no-zeros n (c ∷ cs) b = omega (arith, times-append 0 (cell-slots c) (chain-slots cs), no-zero n c (b .0), no-zeros n cs (b .1))
 
-pub words-hold : (n : ℕ) (p : State ℕ ℕ) → AllSlots n (all-chains p) → ((s : ℕ) → times s (chain-slots (all-chains p)) ≤ 1)
+pub words-hold : (n : ℕ) (p : State ℕ Tally) → AllSlots n (all-chains p) → ((s : ℕ) → times s (chain-slots (all-chains p)) ≤ 1)
     → Holds n (top-of p) (all-chains p) (entry-words n p)
 unfolding entry-words
 words-hold n p b h =

@@ -16,7 +16,7 @@ use Rattle.model.specs.Merge.{point-before, range-before}
 use Rattle.tables.specs.Slots.{kind-of, lo-of, hi-of, tally-of, stamp-of, clock-of}
 use Rattle.tables.specs.Rows.{level-row}
 use Rattle.tables.specs.Words.{Fits32}
-use Rattle.tables.specs.Sound.{point-chain, range-chain, is-point, is-range, order-key, ascend, is-stamped, owed-before, level-sound}
+use Rattle.tables.specs.Sound.{point-chain, range-chain, is-untallied, is-point, is-range, order-key, ascend, is-stamped, owed-before, level-sound}
 use Rattle.tables.specs.Placed.{read-point, read-range, read-level}
 use Rattle.tables.specs.Formed.{LevelFormed}
 use Rattle.tables.proofs.Slots.{hi-small}
@@ -103,7 +103,7 @@ ascend-above e least (s ∷ ss) h =
 module _ (e : List ℕ) where
   point-spans : (s : ℕ) → is-point e s ≡ true → lo-of e s ≡ hi-of e s
   point-spans s h =
-      eqb-true (lo-of e s) (hi-of e s) (and-left (eqb (lo-of e s) (hi-of e s)) (eqb (kind-of e s) 1 || (eqb (kind-of e s) 2 && eqb (tally-of e s) 0)) h)
+      eqb-true (lo-of e s) (hi-of e s) (and-left (eqb (lo-of e s) (hi-of e s)) (eqb (kind-of e s) 1 || (eqb (kind-of e s) 2 && is-untallied e s)) h)
 
   points-ascend : (least : ℕ) (ss : List ℕ) → All (λ s. is-point e s ≡ true) ss → ascend e least ss ≡ true → Ascending point-before (map (read-point e) ss)
   unfolding ascend

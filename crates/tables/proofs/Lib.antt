@@ -23,3 +23,4 @@ pub mod Whole
 pub mod SlotLists
 pub mod ReadPoints
 pub mod Tallies
+pub mod Shown

@@ -1,7 +1,7 @@
 -- A chain that ends: its slots follow one another to zero, and rows of the right form are those of the cells that they read as.
 use mathlib.Core.Path.{_≡_, refl, sym, ap, _∙_}
 use mathlib.Core.Logic.{_≢_}
-use mathlib.Core.Bool.{true, cond, _&&_, _||_}
+use mathlib.Core.Bool.{Bool, true, cond, _&&_, _||_}
 use mathlib.Core.List.{List, [], _∷_, map}
 use Prim.Native.Nat.{ℕ, zero, suc, _<_, _≤_}
 use native.Mathlib.Omega.{arith}
@@ -13,9 +13,10 @@ use Rattle.lists.specs.All.{All}
 use Rattle.settings.specs.Limits.{within}
 use Rattle.settings.proofs.Allowed.{within-bounds}
 use Rattle.lists.proofs.Bools.{and-left, and-right, and-intro, by-cases, or-second}
-use Rattle.tables.specs.Slots.{Slot, slot-at, next-of, kind-of, span-of, lo-of, hi-of, tally-of, date-of, stamp-of, top-slot, first-free, clock-of}
-use Rattle.tables.specs.Sound.{chain, is-free, is-point, is-range, top-blank}
+use Rattle.tables.specs.Slots.{Slot, slot-at, next-of, kind-of, span-of, lo-of, hi-of, tally-of, price-of, date-of, stamp-of, no-tally, top-slot, first-free, clock-of}
+use Rattle.tables.specs.Sound.{chain, is-untallied, is-free, is-point, is-range, top-blank}
 use Rattle.tables.specs.Placed.{Cell, free-cell, point-cell, range-cell, head, read-point, read-range, cell-slot}
+use Rattle.tables.proofs.Slots.{untallied, is-untallied-by}
 use Rattle.tables.proofs.Cells.{Chained}
 use Rattle.tables.proofs.Once.{Inside}
 
@@ -57,6 +58,7 @@ pub record RangeForm (e : List ℕ) (s : ℕ) : Type 0 where
   pub kind : kind-of e s ≡ 3
   pub span : lo-of e s ≤ hi-of e s
   pub date : (1 ≤ date-of e s) × (date-of e s ≤ stamp-of e s)
+  pub price : price-of e s ≡ 0
 
 -- Each form is the row of what it reads as.
 module _ (e : List ℕ) (s : ℕ) where
@@ -65,49 +67,53 @@ module _ (e : List ℕ) (s : ℕ) where
 
   pub free-written : is-free e s ≡ true → slot-at e s ≡ cell-slot (next-of e s) (free-cell s)
   free-written h =
-      let abc = and-left (eqb (kind-of e s) 0 && eqb (span-of e s) 0 && eqb (tally-of e s) 0) (eqb (stamp-of e s) 0) h in
-      let ab = and-left (eqb (kind-of e s) 0 && eqb (span-of e s) 0) (eqb (tally-of e s) 0) abc in
+      let abc = and-left (eqb (kind-of e s) 0 && eqb (span-of e s) 0 && is-untallied e s) (eqb (stamp-of e s) 0) h in
+      let ab = and-left (eqb (kind-of e s) 0 && eqb (span-of e s) 0) (is-untallied e s) abc in
       let k : kind-of e s ≡ 0 = eqb-true (kind-of e s) 0 (and-left (eqb (kind-of e s) 0) (eqb (span-of e s) 0) ab) in
       rebuilt (cell-slot (next-of e s) (free-cell s)) (omega arith)
       (eqb-true (span-of e s) 0 (and-right (eqb (kind-of e s) 0) (eqb (span-of e s) 0) ab))
-      (eqb-true (tally-of e s) 0 (and-right (eqb (kind-of e s) 0 && eqb (span-of e s) 0) (eqb (tally-of e s) 0) abc))
-      (eqb-true (stamp-of e s) 0 (and-right (eqb (kind-of e s) 0 && eqb (span-of e s) 0 && eqb (tally-of e s) 0) (eqb (stamp-of e s) 0) h))
+      (untallied e s (and-right (eqb (kind-of e s) 0 && eqb (span-of e s) 0) (is-untallied e s) abc))
+      (eqb-true (stamp-of e s) 0 (and-right (eqb (kind-of e s) 0 && eqb (span-of e s) 0 && is-untallied e s) (eqb (stamp-of e s) 0) h))
 
   pub point-written : is-point e s ≡ true → slot-at e s ≡ cell-slot (next-of e s) (point-cell (read-point e s))
   point-written h =
       let same : lo-of e s ≡ hi-of e s = eqb-true (lo-of e s) (hi-of e s) (and-left (eqb (lo-of e s) (hi-of e s)) _ h) in
-      let kinds = and-right (eqb (lo-of e s) (hi-of e s)) (eqb (kind-of e s) 1 || (eqb (kind-of e s) 2 && eqb (tally-of e s) 0)) h in
+      let kinds = and-right (eqb (lo-of e s) (hi-of e s)) (eqb (kind-of e s) 1 || (eqb (kind-of e s) 2 && is-untallied e s)) h in
       by-cases (eqb (kind-of e s) 1)
       (λ k. let one : kind-of e s ≡ 1 = eqb-true (kind-of e s) 1 k in
       rebuilt (cell-slot (next-of e s) (point-cell (read-point e s))) (rw k (omega arith)) (omega arith) (rw k) refl)
-      (λ k. let two = or-second (eqb (kind-of e s) 1) (eqb (kind-of e s) 2 && eqb (tally-of e s) 0) kinds k in
-      let kind≡ : kind-of e s ≡ 2 = eqb-true (kind-of e s) 2 (and-left (eqb (kind-of e s) 2) (eqb (tally-of e s) 0) two) in
-      let tally≡ : tally-of e s ≡ 0 = eqb-true (tally-of e s) 0 (and-right (eqb (kind-of e s) 2) (eqb (tally-of e s) 0) two) in
+      (λ k. let two = or-second (eqb (kind-of e s) 1) (eqb (kind-of e s) 2 && is-untallied e s) kinds k in
+      let kind≡ : kind-of e s ≡ 2 = eqb-true (kind-of e s) 2 (and-left (eqb (kind-of e s) 2) (is-untallied e s) two) in
+      let tally≡ : tally-of e s ≡ no-tally = untallied e s (and-right (eqb (kind-of e s) 2) (is-untallied e s) two) in
       rebuilt (cell-slot (next-of e s) (point-cell (read-point e s))) (rw k (omega arith)) (omega arith) (rw k tally≡) refl)
 
   pub range-parts : is-range e s ≡ true → RangeForm e s
   range-parts h =
-      let forms = and-right (leb (lo-of e s) (hi-of e s)) (eqb (kind-of e s) 3 && within 1 (date-of e s) (stamp-of e s)) h in
+      let kind : Bool = eqb (kind-of e s) 3 in
+      let date : Bool = within 1 (date-of e s) (stamp-of e s) in
+      let forms = and-right (leb (lo-of e s) (hi-of e s)) (kind && date && eqb (price-of e s) 0) h in
+      let both = and-left (kind && date) (eqb (price-of e s) 0) forms in
       record {
-        kind = eqb-true (kind-of e s) 3 (and-left (eqb (kind-of e s) 3) (within 1 (date-of e s) (stamp-of e s)) forms);
+        kind = eqb-true (kind-of e s) 3 (and-left kind date both);
         span = leb-true (lo-of e s) (hi-of e s) (and-left (leb (lo-of e s) (hi-of e s)) _ h);
-        date = within-bounds 1 (date-of e s) (stamp-of e s) (and-right (eqb (kind-of e s) 3) (within 1 (date-of e s) (stamp-of e s)) forms);
+        date = within-bounds 1 (date-of e s) (stamp-of e s) (and-right kind date both);
+        price = eqb-true (price-of e s) 0 (and-right (kind && date) (eqb (price-of e s) 0) forms);
       }
 
   pub range-written : is-range e s ≡ true → slot-at e s ≡ cell-slot (next-of e s) (range-cell (read-range e s))
   range-written h =
       let three : kind-of e s ≡ 3 = range-parts h .kind in
-      rebuilt (cell-slot (next-of e s) (range-cell (read-range e s))) (omega arith) (omega arith) refl refl
+      rebuilt (cell-slot (next-of e s) (range-cell (read-range e s))) (omega arith) (omega arith) (rw (range-parts h .price)) refl
 
 -- The words of slot 0 beside the first free slot and the clock are zero.
 module _ (e : List ℕ) where
   pub top-written : top-blank e ≡ true → slot-at e 0 ≡ top-slot (first-free e) (clock-of e)
   top-written h =
       rebuilt e 0 (top-slot (first-free e) (clock-of e)) refl refl
-      (eqb-true (tally-of e 0) 0 (and-left (eqb (tally-of e 0) 0) (eqb (stamp-of e 0) 0) h))
-      (eqb-true (stamp-of e 0) 0 (and-right (eqb (tally-of e 0) 0) (eqb (stamp-of e 0) 0) h))
+      (untallied e 0 (and-left (is-untallied e 0) (eqb (stamp-of e 0) 0) h))
+      (eqb-true (stamp-of e 0) 0 (and-right (is-untallied e 0) (eqb (stamp-of e 0) 0) h))
 
   pub top-form : (first clock : ℕ) → slot-at e 0 ≡ top-slot first clock → top-blank e ≡ true
   top-form first clock h =
-      and-intro (eqb (tally-of e 0) 0) (eqb (stamp-of e 0) 0)
-      (eq-eqb (tally-of e 0) 0 (ap (λ (r : Slot). r .tally) h)) (eq-eqb (stamp-of e 0) 0 (ap (λ (r : Slot). r .stamp) h))
+      and-intro (is-untallied e 0) (eqb (stamp-of e 0) 0)
+      (is-untallied-by e 0 (ap (λ (r : Slot). r .tally) h)) (eq-eqb (stamp-of e 0) 0 (ap (λ (r : Slot). r .stamp) h))

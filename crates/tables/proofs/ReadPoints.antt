@@ -11,6 +11,7 @@ use Rattle.lists.specs.Lists.{count}
 use Rattle.lists.specs.All.{All}
 use Rattle.lists.proofs.Bools.{by-cases}
 use Rattle.lists.proofs.Tests.{all-append, append-map}
+use Rattle.model.specs.declared.Tally.{Tally}
 use Rattle.model.specs.Records.{Level, is-put, Point}
 use Rattle.model.specs.Merge.{point-slots}
 use Rattle.model.specs.Lookup as model
@@ -20,7 +21,7 @@ use Rattle.model.proofs.Full.{AllPuts}
 use Rattle.model.proofs.Puts.{PutsOnly}
 use Rattle.tables.specs.Slots.{kind-of, lo-of, tally-of, stamp-of}
 use Rattle.tables.specs.Sound.{point-chain}
-use Rattle.tables.specs.Placed.{read-point, read-levels}
+use Rattle.tables.specs.Placed.{read-point, read-levels, levels-as}
 use Rattle.tables.specs.Formed.{levels-slots}
 use Rattle.tables.proofs.Cells.{times, times-other}
 use Rattle.tables.proofs.SlotLists.{count-one}
@@ -33,7 +34,7 @@ slots-points (l ∷ ls) a =
 
 -- Points that are what their slots read.
 module _ (e : List ℕ) where
-  pub Own : Point ℕ ℕ → Type 0
+  pub Own : Point ℕ Tally → Type 0
   Own x = read-point e (x .slot) ≡ x
 
   own-chain : (ss : List ℕ) → All Own (map (read-point e) ss)
@@ -42,11 +43,11 @@ module _ (e : List ℕ) where
   own-chain (s ∷ ss) = (refl, own-chain ss)
 
   pub own-levels : (l : List ℕ) (j i : ℕ) → All Own (all-points (read-levels e l j i))
-  unfolding read-levels
+  unfolding levels-as
   own-levels l zero i = tt
   own-levels l (suc j) i = all-append Own (map (read-point e) (point-chain e l i)) (all-points (read-levels e l j (suc i))) (own-chain (point-chain e l i)) (own-levels l j (suc i))
 
-  pub own-back : (xs : List (Point ℕ ℕ)) → All Own xs → map (read-point e) (point-slots xs) ≡ xs
+  pub own-back : (xs : List (Point ℕ Tally)) → All Own xs → map (read-point e) (point-slots xs) ≡ xs
   unfolding Own
   own-back [] a = refl
   own-back (x ∷ xs) a = ap (λ y. y ∷ map (read-point e) (point-slots xs)) (a .0) ∙ ap (_∷_ x) (own-back xs (a .1))

@@ -8,6 +8,7 @@ use lib.Dec.{eqb}
 use lib.ListN.{length}
 use borrow.Author.Tests.{ne-eqb}
 use Rattle.lists.specs.All.{All}
+use Rattle.model.specs.declared.Tally.{Tally}
 use Rattle.model.specs.Records.{Entry, value, tombstone, Point, Range}
 use Rattle.tables.specs.Slots.{Slot, slot-at, next-of, kind-of, lo-of, hi-of, tally-of, date-of, stamp-of}
 use Rattle.tables.specs.Sound.{chain}
@@ -38,13 +39,13 @@ pub free-slots-back : (fs : List ℕ) → cell-slots (map free-cell fs) ≡ fs
 free-slots-back [] = refl
 free-slots-back (s ∷ fs) = ap (_∷_ s) (free-slots-back fs)
 
-entry-back : (x : Entry ℕ) → cond (eqb (entry-kind x) 1) (value (entry-tally x)) tombstone ≡ x
+entry-back : (x : Entry Tally) → cond (eqb (entry-kind x) 1) (value (entry-tally x)) tombstone ≡ x
 entry-back (value a) = refl
 entry-back tombstone = refl
 
 module _ (n : ℕ) (e : List ℕ) (small : n < 65536) where
   -- A record's own row, read again.
-  point-back : (p : Point ℕ ℕ) (cs : List Cell) → p .key ≤ 65535 → Chained n e (point-cell p ∷ cs) → read-point e (p .slot) ≡ p
+  point-back : (p : Point ℕ Tally) (cs : List Cell) → p .key ≤ 65535 → Chained n e (point-cell p ∷ cs) → read-point e (p .slot) ≡ p
   point-back p cs k h =
       let row : slot-at e (p .slot) ≡ cell-slot (head cs) (point-cell p) = h .2 in
       let key≡ : lo-of e (p .slot) ≡ p .key = ap (λ (r : Slot). r .span % 65536) row ∙ omega arith in
@@ -57,11 +58,11 @@ module _ (n : ℕ) (e : List ℕ) (small : n < 65536) where
       let row : slot-at e (r .slot) ≡ cell-slot (head cs) (range-cell r) = h .2 in
       let lo≡ : lo-of e (r .slot) ≡ r .lo = ap (λ (x : Slot). x .span % 65536) row ∙ omega arith in
       let hi≡ : hi-of e (r .slot) ≡ r .hi = ap (λ (x : Slot). x .span / 65536) row ∙ omega arith in
-      let date≡ : date-of e (r .slot) ≡ r .date = ap (λ (x : Slot). x .tally) row in
+      let date≡ : date-of e (r .slot) ≡ r .date = ap (λ (x : Slot). x .tally .count) row in
       let stamp≡ : stamp-of e (r .slot) ≡ r .stamp = ap (λ (x : Slot). x .stamp) row in
       rw (lo≡, hi≡, date≡, stamp≡)
 
-  pub points-back : (ps : List (Point ℕ ℕ)) → All (λ p. p .key ≤ 65535) ps → Chained n e (map point-cell ps)
+  pub points-back : (ps : List (Point ℕ Tally)) → All (λ p. p .key ≤ 65535) ps → Chained n e (map point-cell ps)
       → map (read-point e) (cell-slots (map point-cell ps)) ≡ ps
   points-back [] k h = refl
   points-back (p ∷ ps) k h = rw (point-back p (map point-cell ps) (k .0) h, points-back ps (k .1) (h .3))

@@ -8,6 +8,7 @@ use native.Mathlib.Decide.{ℕ-discrete, decLt}
 use lib.ListN.{length, getD, set, length-set, length-map, List·getD-map}
 use lib.Seq.{lt-length-set, getD-set-same, getD-set-other, ext-getD}
 use Rattle.settings.specs.declared.Settings.{Settings}
+use Rattle.model.specs.declared.Tally.{Tally}
 use Rattle.model.specs.Records.{State, empty}
 use Rattle.tables.specs.Rows.{row-size, InRows, settings-of, set-settings, Row, level-row, set-row, no-row, row-words, level-table}
 use Rattle.tables.specs.Placed.{row-of-level, level-words}
@@ -169,7 +170,7 @@ level-table-set s rs k r h =
         ∙ sym (row-other (level-table s rs) k r i (λ z. q (sym z)) ∙ level-table-at s rs i no-row b)
 
 -- The level table that a state writes.
-module _ (p : State ℕ ℕ) where
+module _ (p : State ℕ Tally) where
   pub length-level-words : length (level-words p) ≡ row-size * (length (p .levels) + 1)
   unfolding level-words
   length-level-words = length-level-table (p .settings) (map row-of-level (p .levels)) ∙ omega (arith, length-map (p .levels) row-of-level)

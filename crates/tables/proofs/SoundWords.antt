@@ -13,13 +13,14 @@ use Rattle.lists.specs.Lists.{every}
 use Rattle.lists.specs.All.{All}
 use Rattle.lists.proofs.Bools.{and-left, and-right}
 use Rattle.lists.proofs.Tests.{map-map, every-all, all-left, all-right, all-weaken}
+use Rattle.model.specs.declared.Tally.{Tally}
 use Rattle.model.specs.Records.{Level, State, empty}
 use Rattle.model.specs.Merge.{point-slots, range-slots}
 use Rattle.tables.specs.Slots.{entry-length, slots-of, slot-at, next-of, top-slot, first-free, clock-of}
 use Rattle.tables.specs.Rows.{level-length, settings-of, Row, level-row}
 use Rattle.tables.specs.Words.{Fits32}
 use Rattle.tables.specs.Sound.{chain-from, free-chain, point-chain, range-chain, is-free, level-sound, levels-sound, record-slots, every-slot-once, chains-sound, entries-fit, levels-fit, table-refusal, top-blank}
-use Rattle.tables.specs.Placed.{Cell, free-cell, point-cell, range-cell, head, level-chains, all-chains, row-of-level, entry-words, level-words, read-point, read-range, read-level, read-levels, read-state, cell-slot, top-of}
+use Rattle.tables.specs.Placed.{Cell, free-cell, point-cell, range-cell, head, level-chains, all-chains, row-of-level, entry-words, level-words, read-point, read-range, read-level, read-levels, read-state, cell-slot, top-of, levels-as, state-as}
 use Rattle.tables.specs.Formed.{LevelFormed, levels-slots, Formed}
 use Rattle.tables.proofs.Rows.{rows-equal, length-level-words, settings-back, level-row-at}
 use Rattle.tables.proofs.Cells.{Chained, AllChained, Holds}
@@ -98,27 +99,27 @@ range-read-slots e [] = refl
 range-read-slots e (s ∷ ss) = ap (_∷_ s) (range-read-slots e ss)
 
 pub read-slots : (e l : List ℕ) (j i : ℕ) → levels-slots (read-levels e l j i) ≡ record-slots e l j i
-unfolding read-levels record-slots
+unfolding levels-as record-slots
 read-slots e l zero i = refl
 read-slots e l (suc j) i = rw (point-read-slots e (point-chain e l i), range-read-slots e (range-chain e l i), read-slots e l j (suc i))
 
 pub length-read-levels : (e l : List ℕ) (j i : ℕ) → length (read-levels e l j i) ≡ j
-unfolding read-levels
+unfolding levels-as
 length-read-levels e l zero i = refl
 length-read-levels e l (suc j) i = ap suc (length-read-levels e l j (suc i))
 
 pub read-levels-at : (e l : List ℕ) (j i m : ℕ) → m < j → getD (read-levels e l j i) m empty ≡ read-level e l (i + m)
-unfolding read-levels
+unfolding levels-as
 read-levels-at e l zero i m h = absurd (omega arith)
 read-levels-at e l (suc j) i zero h = ap (read-level e l) (omega arith)
 read-levels-at e l (suc j) i (suc m) h = read-levels-at e l j (suc i) m (omega arith) ∙ ap (read-level e l) (omega arith)
 
 pub length-state-levels : (e l : List ℕ) → length (read-state e l .levels) ≡ suc (settings-of l .deepest)
-unfolding read-state
+unfolding state-as
 length-state-levels e l = length-read-levels e l (suc (settings-of l .deepest)) 0
 
 pub read-state-level : (e l : List ℕ) (i : ℕ) → i ≤ settings-of l .deepest → getD (read-state e l .levels) i empty ≡ read-level e l i
-unfolding read-state
+unfolding state-as
 read-state-level e l i h =
     let nothing : 0 + i ≡ i = omega arith in
     read-levels-at e l (suc (settings-of l .deepest)) 0 i (omega arith) ∙ ap (read-level e l) nothing
@@ -140,12 +141,12 @@ module _ (e l : List ℕ) (w : Fits32 e) (f : Sound e l) where
   total = sym (length-append (free-chain e) (record-slots e l (suc (settings-of l .deepest)) 0)) ∙ f .once .number
 
   levels-formed : (j i : ℕ) → i + j ≤ suc deepest → All (LevelFormed (clock-of e)) (read-levels e l j i)
-  unfolding read-levels deepest
+  unfolding levels-as deepest
   levels-formed zero i h = tt
   levels-formed (suc j) i h = (level-reads-formed e l i w (f .levels i (omega arith)), levels-formed j (suc i) (omega arith))
 
   pub sound-formed : Formed (slots-of e) (read-state e l)
-  unfolding read-state deepest
+  unfolding state-as deepest
   sound-formed = record {
     few = f .few;
     many = f .many;
@@ -153,7 +154,7 @@ module _ (e l : List ℕ) (w : Fits32 e) (f : Sound e l) where
     size = length-read-levels e l (suc (settings-of l .deepest)) 0;
     levels-ok = levels-formed (suc (settings-of l .deepest)) 0 (omega arith);
     deepest-owes-nothing =
-        ap (λ (v : Level ℕ ℕ). v .owed) (read-levels-at e l (suc (settings-of l .deepest)) 0 (settings-of l .deepest) (omega arith))
+        ap (λ (v : Level ℕ Tally). v .owed) (read-levels-at e l (suc (settings-of l .deepest)) 0 (settings-of l .deepest) (omega arith))
         ∙ ap (λ k. level-row l k .owed) (omega arith) ∙ f .deepest-owes-nothing;
     slots-once = rw (read-slots e l (suc (settings-of l .deepest)) 0)
         (facts-once (slots-of e) (free-chain e ++ record-slots e l (suc (settings-of l .deepest)) 0) (f .once));
@@ -211,7 +212,7 @@ module _ (e l : List ℕ) (w : Fits32 e) (f : Sound e l) where
 
   all-held : (j i : ℕ) → i + j ≤ suc (settings-of l .deepest) → length (record-slots e l j i) ≤ n → All (Inside n) (record-slots e l j i)
       → (AllChained n e (level-chains (read-levels e l j i))) × ((m : ℕ) → i ≤ m → m < i + j → level-row l m ≡ row-of-level (read-level e l m))
-  unfolding read-levels record-slots
+  unfolding levels-as record-slots
   all-held zero i k short a = (tt, λ m x y. absurd (omega arith))
   all-held (suc j) i k short a =
       let here : List ℕ = point-chain e l i ++ range-chain e l i in
@@ -234,7 +235,7 @@ module _ (e l : List ℕ) (w : Fits32 e) (f : Sound e l) where
       (all-right (Inside n) (free-chain e) (record-slots e l (suc (settings-of l .deepest)) 0) inside)
 
   pub sound-holds : Holds (slots-of e) (top-of (read-state e l)) (all-chains (read-state e l)) e
-  unfolding read-state n
+  unfolding state-as n
   sound-holds = record {
     room = f .length-entries;
     first = rw (free-held .1) (f .top);
@@ -247,12 +248,12 @@ module _ (e l : List ℕ) (w : Fits32 e) (f : Sound e l) where
 
   pub sound-levels : l ≡ level-words (read-state e l)
   sound-levels =
-      let p : State ℕ ℕ = read-state e l in
+      let p : State ℕ Tally = read-state e l in
       rows-equal (settings-of l .deepest + 1) l (level-words p) (f .length-levels ∙ omega arith) (length-level-words p ∙ omega (arith, length-state-levels e l))
-      (unfold read-state in sym (settings-back (read-state e l))) at
+      (unfold state-as in sym (settings-back (read-state e l))) at
     where
       at : (i : ℕ) → i < settings-of l .deepest + 1 → level-row l i ≡ level-row (level-words (read-state e l)) i
       at i b =
-          let p : State ℕ ℕ = read-state e l in
+          let p : State ℕ Tally = read-state e l in
           held-here .1 i (omega arith) (omega arith) ∙ ap row-of-level (sym (read-state-level e l i (omega arith)))
           ∙ sym (level-row-at p i (omega (arith, length-state-levels e l)))

@@ -7,6 +7,7 @@ use lib.ListN.{length, length-append, length-map}
 use Rattle.settings.proofs.Allowed.{allowed-bounds}
 use Rattle.lists.specs.Lists.{sum}
 use Rattle.lists.proofs.Tests.{all-weaken}
+use Rattle.model.specs.declared.Tally.{Tally}
 use Rattle.model.specs.Records.{Point, Range, Level, State, held-all}
 use Rattle.model.specs.Merge.{point-slots, range-slots}
 use Rattle.model.proofs.Form as model
@@ -14,19 +15,19 @@ use Rattle.model.proofs.Slots.{Whole}
 use Rattle.tables.specs.Formed.{LevelFormed, levels-slots, Formed}
 use Rattle.tables.proofs.Once.{once-facts}
 
-slots-held : (ls : List (Level ℕ ℕ)) → length (levels-slots ls) ≡ held-all ls
+slots-held : (ls : List (Level ℕ Tally)) → length (levels-slots ls) ≡ held-all ls
 unfolding sum
 slots-held [] = refl
 slots-held (l ∷ ls) = omega (
   arith,
   length-append (point-slots (l .points) ++ range-slots (l .ranges)) (levels-slots ls),
   length-append (point-slots (l .points)) (range-slots (l .ranges)),
-  length-map (l .points) (λ (p : Point ℕ ℕ). p .slot),
+  length-map (l .points) (λ (p : Point ℕ Tally). p .slot),
   length-map (l .ranges) (λ (r : Range ℕ). r .slot),
   slots-held ls,
 )
 
-module _ (n : ℕ) (p : State ℕ ℕ) (f : Formed n p) where
+module _ (n : ℕ) (p : State ℕ Tally) (f : Formed n p) where
   pub in-form : model.Formed p
   in-form =
       let b = allowed-bounds (p .settings) (f .settings-ok) in

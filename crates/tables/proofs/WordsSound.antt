@@ -9,12 +9,15 @@ use borrow.Author.Tests.{eqb-true, eq-eqb, ne-eqb, le-leb, ltb-true}
 use Rattle.lists.specs.All.{All, Ascending}
 use Rattle.lists.proofs.Bools.{and-left, and-right, and-intro, or-left, or-right, by-cases, or-second}
 use Rattle.lists.proofs.Tests.{all-weaken}
+use Rattle.settings.specs.Limits.{within}
 use Rattle.settings.proofs.Allowed.{within-true}
+use Rattle.model.specs.declared.Tally.{Tally}
 use Rattle.model.specs.Records.{Entry, value, tombstone, Point, Range}
 use Rattle.model.specs.Merge.{point-before, range-before}
-use Rattle.tables.specs.Slots.{Slot, slot-at, kind-of, span-of, lo-of, hi-of, tally-of, date-of, stamp-of, clock-of}
-use Rattle.tables.specs.Sound.{is-free, is-point, is-range, order-key, ascend, is-stamped, owed-before}
+use Rattle.tables.specs.Slots.{Slot, slot-at, kind-of, span-of, lo-of, hi-of, tally-of, stamp-of, dated, clock-of}
+use Rattle.tables.specs.Sound.{is-untallied, is-free, is-point, is-range, order-key, ascend, is-stamped, owed-before}
 use Rattle.tables.specs.Placed.{Cell, free-cell, entry-kind, entry-tally, point-cell, range-cell, head, cell-slot}
+use Rattle.tables.proofs.Slots.{is-untallied-by}
 use Rattle.tables.proofs.Cells.{Chained, cell-slots}
 use Rattle.tables.proofs.Reading.{head-small}
 
@@ -45,31 +48,31 @@ module _ (n : ℕ) (e : List ℕ) (small : n < 65536) where
       rw (
         eq-eqb (kind-of e s) 0 (cell-kind e n next (free-cell s) small b row),
         eq-eqb (span-of e s) 0 (cell-span e n next (free-cell s) small b row),
-        eq-eqb (tally-of e s) 0 (cell-tally e n next (free-cell s) small b row),
+        is-untallied-by e s (cell-tally e n next (free-cell s) small b row),
         eq-eqb (stamp-of e s) 0 (cell-stamp e n next (free-cell s) small b row),
       )
 
-  pub point-form : (p : Point ℕ ℕ) (next : ℕ) → next ≤ n → p .key ≤ 65535 → slot-at e (p .slot) ≡ cell-slot next (point-cell p) → is-point e (p .slot) ≡ true
+  pub point-form : (p : Point ℕ Tally) (next : ℕ) → next ≤ n → p .key ≤ 65535 → slot-at e (p .slot) ≡ cell-slot next (point-cell p) → is-point e (p .slot) ≡ true
   point-form p next b k row =
       let w1≡ : span-of e (p .slot) ≡ p .key + 65536 * p .key = cell-span e n next (point-cell p) small b row in
       let kind≡ = cell-kind e n next (point-cell p) small b row in
       let tally≡ = cell-tally e n next (point-cell p) small b row in
       and-intro (eqb (lo-of e (p .slot)) (hi-of e (p .slot))) _ (eq-eqb (lo-of e (p .slot)) (hi-of e (p .slot)) (omega arith)) (kinds (p .entry) kind≡ tally≡)
     where
-      kinds : (x : Entry ℕ) → kind-of e (p .slot) ≡ entry-kind x → tally-of e (p .slot) ≡ entry-tally x
-          → eqb (kind-of e (p .slot)) 1 || (eqb (kind-of e (p .slot)) 2 && eqb (tally-of e (p .slot)) 0) ≡ true
+      kinds : (x : Entry Tally) → kind-of e (p .slot) ≡ entry-kind x → tally-of e (p .slot) ≡ entry-tally x
+          → eqb (kind-of e (p .slot)) 1 || (eqb (kind-of e (p .slot)) 2 && is-untallied e (p .slot)) ≡ true
       kinds (value a) q t = rw q
-      kinds tombstone q t = rw (q, t)
+      kinds tombstone q t = rw (q, is-untallied-by e (p .slot) t)
 
   pub range-form : (r : Range ℕ) (next : ℕ) → next ≤ n → ((r .lo ≤ r .hi) × (r .hi ≤ 65535)) × ((1 ≤ r .date) × (r .date ≤ r .stamp)) → slot-at e (r .slot) ≡ cell-slot next (range-cell r)
       → is-range e (r .slot) ≡ true
   range-form r next b k row =
       let w1≡ : span-of e (r .slot) ≡ r .lo + 65536 * r .hi = cell-span e n next (range-cell r) small b row in
       let kind≡ = cell-kind e n next (range-cell r) small b row in
-      let date≡ : date-of e (r .slot) ≡ r .date = cell-tally e n next (range-cell r) small b row in
+      let tally≡ : tally-of e (r .slot) ≡ dated (r .date) = cell-tally e n next (range-cell r) small b row in
       let stamp≡ : stamp-of e (r .slot) ≡ r .stamp = cell-stamp e n next (range-cell r) small b row in
-      rw (le-leb (lo-of e (r .slot)) (hi-of e (r .slot)) (omega (arith, k .0 .0, k .0 .1)), kind≡, date≡, stamp≡)
-      (within-true 1 (r .date) (r .stamp) (k .1 .0) (k .1 .1))
+      rw (le-leb (lo-of e (r .slot)) (hi-of e (r .slot)) (omega (arith, k .0 .0, k .0 .1)), kind≡, ap (λ (a : Tally). a .count) tally≡, ap (λ (a : Tally). a .price) tally≡, stamp≡)
+      (and-intro (within 1 (r .date) (r .stamp)) true (within-true 1 (r .date) (r .stamp) (k .1 .0) (k .1 .1)) refl)
 
   pub stamp-form : (c : Cell) (next : ℕ) → next ≤ n → (1 ≤ c .stamp) × (c .stamp ≤ clock-of e) → slot-at e (c .slot) ≡ cell-slot next c
       → is-stamped e (c .slot) ≡ true
@@ -90,7 +93,7 @@ module _ (n : ℕ) (e : List ℕ) (small : n < 65536) where
       (ap not (ne-eqb owed 0 (omega (arith, k q .0)))) (le-leb owed (stamp-of e (c .slot)) (omega (arith, k q .1)))))
 
   -- The orders, by key.
-  point-key : (p : Point ℕ ℕ) (next : ℕ) → next ≤ n → p .key ≤ 65535 → slot-at e (p .slot) ≡ cell-slot next (point-cell p)
+  point-key : (p : Point ℕ Tally) (next : ℕ) → next ≤ n → p .key ≤ 65535 → slot-at e (p .slot) ≡ cell-slot next (point-cell p)
       → order-key e (p .slot) ≡ p .key * 65536 + p .key
   point-key p next b k row = let w1≡ : span-of e (p .slot) ≡ p .key + 65536 * p .key = cell-span e n next (point-cell p) small b row in omega arith
 
@@ -98,7 +101,7 @@ module _ (n : ℕ) (e : List ℕ) (small : n < 65536) where
       → order-key e (r .slot) ≡ r .lo * 65536 + r .hi
   range-key r next b k row = let w1≡ : span-of e (r .slot) ≡ r .lo + 65536 * r .hi = cell-span e n next (range-cell r) small b row in omega (arith, k .0, k .1)
 
-  pub points-order : (ps : List (Point ℕ ℕ)) (least : ℕ) → All (λ p. p .key ≤ 65535) ps → Ascending point-before ps
+  pub points-order : (ps : List (Point ℕ Tally)) (least : ℕ) → All (λ p. p .key ≤ 65535) ps → Ascending point-before ps
       → All (λ p. least ≤ p .key * 65536 + p .key) ps → Chained n e (map point-cell ps) → ascend e least (cell-slots (map point-cell ps)) ≡ true
   unfolding ascend
   points-order [] least k a m c = refl

@@ -6,6 +6,7 @@ use Prim.Native.Nat.{ℕ, suc, _≤_}
 use lib.ListN.{length}
 use Rattle.settings.specs.Limits.{allowed}
 use Rattle.lists.specs.All.{All, Ascending}
+use Rattle.model.specs.declared.Tally.{Tally}
 use Rattle.model.specs.Records.{Level, State, is-put, level, held}
 use Rattle.model.specs.Merge.{point-before, range-before, point-slots, range-slots}
 use Rattle.tables.specs.Sound.{every-slot-once}
@@ -32,7 +33,7 @@ module _ {S A : Type 0} where
   levels-slots (l ∷ ls) = (point-slots (l .points) ++ range-slots (l .ranges)) ++ levels-slots ls
 
 -- A state of n slots that sound tables can hold.
-pub record Formed (n : ℕ) (p : State ℕ ℕ) : Type 0 where
+pub record Formed (n : ℕ) (p : State ℕ Tally) : Type 0 where
   pub few : 1 ≤ n
   pub many : n ≤ 65535
   pub settings-ok : allowed (p .settings) ≡ true

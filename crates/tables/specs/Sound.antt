@@ -6,7 +6,7 @@ use lib.Dec.{leb, eqb}
 use lib.ListN.{length}
 use Rattle.settings.specs.Limits.{within, allowed}
 use Rattle.lists.specs.Lists.{none, every, count}
-use Rattle.tables.specs.Slots.{entry-length, slots-of, slot-at, next-of, kind-of, span-of, lo-of, hi-of, tally-of, date-of, stamp-of, first-free, clock-of}
+use Rattle.tables.specs.Slots.{entry-length, slots-of, next-of, kind-of, span-of, lo-of, hi-of, count-of, price-of, date-of, stamp-of, first-free, clock-of}
 use Rattle.tables.specs.Rows.{level-length, settings-of, level-row}
 
 -- "Records are chained by the next slot, and zero ends the chain": the slots of a chain, k of them at most.
@@ -27,17 +27,21 @@ point-chain e l i = chain-from e (level-row l i .points)
 abbrev pub range-chain : List ℕ → List ℕ → ℕ → List ℕ
 range-chain e l i = chain-from e (level-row l i .ranges)
 
+-- No tally: neither count nor price.
+abbrev pub is-untallied : List ℕ → ℕ → Bool
+is-untallied e s = eqb (count-of e s) 0 && eqb (price-of e s) 0
+
 -- "A free slot is zero but for its next."
 abbrev pub is-free : List ℕ → ℕ → Bool
-is-free e s = eqb (kind-of e s) 0 && eqb (span-of e s) 0 && eqb (tally-of e s) 0 && eqb (stamp-of e s) 0
+is-free e s = eqb (kind-of e s) 0 && eqb (span-of e s) 0 && is-untallied e s && eqb (stamp-of e s) 0
 
 -- "Each chain has only its kinds, and the forms above": "lo = hi for kinds 1 and 2", tally "0 for" kind 2.
 abbrev pub is-point : List ℕ → ℕ → Bool
-is-point e s = eqb (lo-of e s) (hi-of e s) && (eqb (kind-of e s) 1 || (eqb (kind-of e s) 2 && eqb (tally-of e s) 0))
+is-point e s = eqb (lo-of e s) (hi-of e s) && (eqb (kind-of e s) 1 || (eqb (kind-of e s) 2 && is-untallied e s))
 
--- "with lo ≤ hi"; "Word 2 of kind 3 now holds s, from 1 to its stamp".
+-- "with lo ≤ hi"; "Word 2 of kind 3 now holds s, from 1 to its stamp"; the price is "zero for" kind 3.
 abbrev pub is-range : List ℕ → ℕ → Bool
-is-range e s = leb (lo-of e s) (hi-of e s) && (eqb (kind-of e s) 3 && within 1 (date-of e s) (stamp-of e s))
+is-range e s = leb (lo-of e s) (hi-of e s) && (eqb (kind-of e s) 3 && within 1 (date-of e s) (stamp-of e s) && eqb (price-of e s) 0)
 
 -- "Points of a level ascend strictly by docket; ranges ascend strictly by lo, then hi": both by one key.
 abbrev pub order-key : List ℕ → ℕ → ℕ
@@ -87,9 +91,9 @@ once-each (suc n) ss = eqb (count (eqb (suc n)) ss) 1 && once-each n ss
 abbrev pub every-slot-once : ℕ → List ℕ → Bool
 every-slot-once n ss = eqb (length ss) n && once-each n ss
 
--- "Slot 0 has the first free slot, the last accepted clock (0 when fresh), 0, 0."
+-- "Slot 0 has the first free slot, the last accepted clock (0 when fresh), 0, 0", and a zero in word 4.
 abbrev pub top-blank : List ℕ → Bool
-top-blank e = eqb (slot-at e 0 .tally) 0 && eqb (slot-at e 0 .stamp) 0
+top-blank e = is-untallied e 0 && eqb (stamp-of e 0) 0
 
 -- Refusal 3: "tables not sound". "Level L has puts only, owed 0": with owed 0 it has no delete.
 unfoldable pub chains-sound : List ℕ → List ℕ → Bool
@@ -101,7 +105,7 @@ chains-sound e l =
     && eqb (level-row l deepest .owed) 0
     && every-slot-once (slots-of e) (free-chain e ++ record-slots e l (suc deepest) 0)
 
--- Refusal 1: "not 4 × (N + 1) for an allowed N", which is 1 to 65,535.
+-- Refusal 1: "not" 5 "× (N + 1) for an allowed N", which is 1 to 65,535.
 unfoldable pub entries-fit : List ℕ → Bool
 entries-fit e = eqb (length e) (entry-length (slots-of e)) && within 1 (slots-of e) 65535
 

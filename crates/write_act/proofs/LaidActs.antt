@@ -10,6 +10,7 @@ use lib.ListN.{length, set, length-map}
 use Rattle.lists.specs.Lists.{select, reject}
 use Rattle.lists.proofs.Bools.{cond-elim}
 use Rattle.lists.proofs.Tests.{length-select}
+use Rattle.model.specs.declared.Tally.{Tally}
 use Rattle.model.specs.Records as model
 use Rattle.model.specs.Records.{Point, State, empty, level, stored}
 use Rattle.model.specs.Merge.{point-goes, point-slots, release}
@@ -55,31 +56,31 @@ deepest-points g = record {
 }
 
 -- A put in a point's place has its slot.
-overwritten-slot : (k a t : ℕ) (ps : List (Point ℕ ℕ)) → head (map point-cell (map (overwrite k a t) ps)) ≡ head (map point-cell ps)
+overwritten-slot : (k : ℕ) (a : Tally) (t : ℕ) (ps : List (Point ℕ Tally)) → head (map point-cell (map (overwrite k a t) ps)) ≡ head (map point-cell ps)
 overwritten-slot k a t [] = refl
-overwritten-slot k a t (p ∷ ps) = cond-elim (λ (q : Point ℕ ℕ). q .slot ≡ p .slot) (eqb (p .key) k) (written-over a t p) p (λ e. refl) (λ e. refl)
+overwritten-slot k a t (p ∷ ps) = cond-elim (λ (q : Point ℕ Tally). q .slot ≡ p .slot) (eqb (p .key) k) (written-over a t p) p (λ e. refl) (λ e. refl)
 
 -- At the clock of the call a write acts as at the last one.
-timed-act : (t : ℕ) (v : Write ℕ) (p : State ℕ ℕ) → timed t (act-deepest t v p) ≡ act-deepest t v (timed t p)
+timed-act : (t : ℕ) (v : Write Tally) (p : State ℕ Tally) → timed t (act-deepest t v p) ≡ act-deepest t v (timed t p)
 unfolding act-deepest wipe set-points
 timed-act t (put k a) p = refl
 timed-act t (delete k) p = refl
 timed-act t (delete-range lo hi date) p = refl
 
-act-clock : (t : ℕ) (v : Write ℕ) (p : State ℕ ℕ) → act-deepest t v p .clock ≡ p .clock
+act-clock : (t : ℕ) (v : Write Tally) (p : State ℕ Tally) → act-deepest t v p .clock ≡ p .clock
 unfolding act-deepest wipe set-points
 act-clock t (put k a) p = refl
 act-clock t (delete k) p = refl
 act-clock t (delete-range lo hi date) p = refl
 
 -- Every write but a put wipes.
-act-wipes : (t : ℕ) (v : Write ℕ) (p : State ℕ ℕ) → record-of v .kind ≢ 1 → act-deepest t v p ≡ wipe (unplaced t v) (p .settings .deepest) p
+act-wipes : (t : ℕ) (v : Write Tally) (p : State ℕ Tally) → record-of v .kind ≢ 1 → act-deepest t v p ≡ wipe (unplaced t v) (p .settings .deepest) p
 unfolding act-deepest
 act-wipes t (put k a) p ne = absurd (ne refl)
 act-wipes t (delete k) p ne = refl
 act-wipes t (delete-range lo hi date) p ne = refl
 
-wiping-can : (v : Write ℕ) (p : State ℕ ℕ) → record-of v .kind ≢ 1 → true ≡ can-act v p
+wiping-can : (v : Write Tally) (p : State ℕ Tally) → record-of v .kind ≢ 1 → true ≡ can-act v p
 wiping-can (put k a) p ne = absurd (ne refl)
 wiping-can (delete k) p ne = refl
 wiping-can (delete-range lo hi date) p ne = refl
@@ -136,18 +137,18 @@ module _ {g : Store} {e l : List ℕ} (laid : Laid g e l) where
 
   module _ (low : 1 ≤ g .time) where
     -- The state acted on is one that sound tables can hold.
-    acted-formed : (v : Write ℕ) → Formed (g .slots) (timed (g .time) (act-deepest (g .time) v (g .state)))
+    acted-formed : (v : Write Tally) → Formed (g .slots) (timed (g .time) (act-deepest (g .time) v (g .state)))
     acted-formed v =
-        let p : State ℕ ℕ = timed (g .time) (g .state) in
+        let p : State ℕ Tally = timed (g .time) (g .state) in
         rw (timed-act (g .time) v (g .state))
         (at-formed (g .slots) (g .time) p (act-deepest (g .time) v p) (laid .formed)
         (acted-at (g .time) p low v p (formed-at (g .slots) (g .time) p (omega arith) (laid .formed))) (act-clock (g .time) v p))
 
-    module _ (k a : ℕ) {e′ : List ℕ} {found : Bool} (o : Overwritten (deepest-points g) k a (g .time) e′ found) where
+    module _ (k : ℕ) (a : Tally) {e′ : List ℕ} {found : Bool} (o : Overwritten (deepest-points g) k a (g .time) e′ found) where
       -- A docket that level L lacks: the points are as they were, and so is the table.
       put-kept : found ≡ false → e′ ≡ e
       put-kept q =
-          let p : State ℕ ℕ = g .state in
+          let p : State ℕ Tally = g .state in
           let d : Points = deepest-points g in
           let chains : List (List Cell) = map point-cell (d .points) ∷ d .others in
           let same : Held (g .slots) (p .clock) (p .free) chains e′ = rw (untouched k a (g .time) (d .points) (sym (o .found-is) ∙ q)) at (o .held) in
@@ -158,9 +159,9 @@ module _ {g : Store} {e l : List ℕ} (laid : Laid g e l) where
       put-acted : Acted g (put k a) e l e′ l found
       unfolding act-deepest set-points
       put-acted =
-          let p : State ℕ ℕ = g .state in
+          let p : State ℕ Tally = g .state in
           let i : ℕ = p .settings .deepest in
-          let v : model.Level ℕ ℕ = record { points = map (overwrite k a (g .time)) (level i p .points); ranges = level i p .ranges; owed = level i p .owed } in
+          let v : model.Level ℕ Tally = record { points = map (overwrite k a (g .time)) (level i p .points); ranges = level i p .ranges; owed = level i p .owed } in
           let same : row-of-level v ≡ row-of-level (level i p) =
           rw (overwritten-slot k a (g .time) (level i p .points), length-map (level i p .points) (overwrite k a (g .time))) in
           record {
@@ -170,14 +171,14 @@ module _ {g : Store} {e l : List ℕ} (laid : Laid g e l) where
           }
 
     -- The same in the words of the code's record and clock.
-    pub put-ends : (v : Write ℕ) {w : Record} → w ≡ record-of v → w .kind ≡ 1 → {clock : ℕ} → g .time ≡ clock → {e′ : List ℕ} {found : Bool}
+    pub put-ends : (v : Write Tally) {w : Record} → w ≡ record-of v → w .kind ≡ 1 → {clock : ℕ} → g .time ≡ clock → {e′ : List ℕ} {found : Bool}
         → Overwritten (deepest-points g) (w .lo) (w .tally) clock e′ found → Acted g v e l e′ l found
     put-ends (put k a) is one {clock} t {e′} {found} o =
         put-acted k a (rw (← t) at (subst (λ (x : Record). Overwritten (deepest-points g) (x .lo) (x .tally) clock e′ found) is o))
     put-ends (delete k) is one t o = absurd (omega (arith, ap (λ (x : Record). x .kind) is))
     put-ends (delete-range lo hi date) is one t o = absurd (omega (arith, ap (λ (x : Record). x .kind) is))
 
-    module _ (v : Write ℕ) {w : Record} (is : w ≡ record-of v) (ne : w .kind ≢ 1)
+    module _ (v : Write Tally) {w : Record} (is : w ≡ record-of v) (ne : w .kind ≢ 1)
         {d : ℕ} (deep : d ≡ settings-of l .deepest) {r : Level} (row : r ≡ level-at l d) {which : Doomed} (told : which ≡ displaced-points w)
         {e′ : List ℕ} {m : Cursor} (s : Sifted (doomed which) (points-of g (g .state .settings .deepest)) e′ m) where
       -- The row that the code leaves.
@@ -187,14 +188,14 @@ module _ {g : Store} {e l : List ℕ} (laid : Laid g e l) where
       wiping : record-of v .kind ≢ 1
       wiping q = ne (ap (λ (x : Record). x .kind) is ∙ q)
 
-      deepest-level : model.Level ℕ ℕ
+      deepest-level : model.Level ℕ Tally
       deepest-level = level (g .state .settings .deepest) (g .state)
 
-      goes : Point ℕ ℕ → Bool
+      goes : Point ℕ Tally → Bool
       goes = point-goes (unplaced (g .time) v)
 
       -- What is left of level L.
-      wiped : model.Level ℕ ℕ
+      wiped : model.Level ℕ Tally
       wiped = record { points = reject goes (deepest-level .points); ranges = deepest-level .ranges; owed = deepest-level .owed }
 
       -- The cells that went and those that stayed are those of the points.
@@ -223,7 +224,7 @@ module _ {g : Store} {e l : List ℕ} (laid : Laid g e l) where
       wipe-acted : Acted g v e l e′ (set-row l d left-row) true
       unfolding wipe set-points deepest-level goes wiped
       wipe-acted =
-          let p : State ℕ ℕ = g .state in
+          let p : State ℕ Tally = g .state in
           let i : ℕ = p .settings .deepest in
           let free : List ℕ = release (point-slots (select goes (deepest-level .points))) (p .free) in
           let state≡ : act-deepest (g .time) v p ≡ stored p free (set (p .levels) i wiped) = act-wipes (g .time) v p wiping in

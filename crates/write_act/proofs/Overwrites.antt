@@ -9,10 +9,11 @@ use lib.Dec.{eqb}
 use Rattle.lists.specs.Lists.{select}
 use Rattle.lists.proofs.Bools.{by-cases}
 use Rattle.lists.proofs.Tests.{all-right, all-weaken, append-map, select-none}
+use Rattle.model.specs.declared.Tally.{Tally}
 use Rattle.model.specs.Records.{Entry, value, tombstone, Point, is-put}
 use Rattle.model.specs.Merge.{names}
 use Rattle.model.specs.Steps.{overwrite}
-use Rattle.tables.specs.Slots.{InTable, slot-at, set-slot, span-from, with-value}
+use Rattle.tables.specs.Slots.{InTable, slot-at, set-slot, span-from, with-tally}
 use Rattle.tables.proofs.Slots.{length-set-slot, slot-other, slot-same}
 use Rattle.tables.specs.Placed.{Cell, entry-kind, point-cell, head, cell-slot}
 use Rattle.tables.proofs.Cells.{Chained}
@@ -29,10 +30,10 @@ use Rattle.write_act.specs.Acting as acting
 use Rattle.write_act.proofs.Named.{Named, find-named, named-first, written-over, untouched, overwritten}
 
 -- The table after tally and stamp of slot s have changed.
-abbrev pub rewritten-words : List ℕ → ℕ → ℕ → ℕ → List ℕ
-rewritten-words e s a t = set-slot e s (with-value a t (slot-at e s))
+abbrev pub rewritten-words : List ℕ → ℕ → Tally → ℕ → List ℕ
+rewritten-words e s a t = set-slot e s (with-tally a t (slot-at e s))
 
-put-kind : (n : Entry ℕ) → is-put n ≡ true → entry-kind n ≡ 1
+put-kind : (n : Entry Tally) → is-put n ≡ true → entry-kind n ≡ 1
 put-kind (value a) h = refl
 put-kind tombstone h = absurd (false≢true h)
 
@@ -62,7 +63,7 @@ module _ {g : acting.Points} {e : List ℕ} {first : ℕ} (h : PointsHeld g e fi
         at-place : Chained (g .slots) e (point-cell (n .point) ∷ map point-cell (n .after))
         at-place = chain-end (g .slots) e (map point-cell (n .before)) (point-cell (n .point) ∷ map point-cell (n .after)) (here .holds .each .1 .0)
 
-        over : (a t : ℕ)
+        over : (a : Tally) (t : ℕ)
             → Held (g .slots) (g .clock) (g .free) (map point-cell (map (overwrite k a t) (g .points)) ∷ g .others) (rewritten-words e (n .point .slot) a t)
         over a t =
             let x : ℕ = n .point .slot in
@@ -70,7 +71,7 @@ module _ {g : acting.Points} {e : List ℕ} {first : ℕ} (h : PointsHeld g e fi
             let put≡ : entry-kind (n .point .entry) ≡ 1 =
             put-kind (n .point .entry) (all-right (λ p. is-put (p .entry) ≡ true) (n .before) (n .point ∷ n .after) (rw (n .whole) at (h .puts)) .0) in
             let row : slot-at (rewritten-words e x a t) x ≡ cell-slot (head cs) (point-cell (written-over a t (n .point))) =
-            slot-same e x _ (omega (arith, at-place .1, h .held .holds .room)) ∙ ap (with-value a t) (at-place .2)
+            slot-same e x _ (omega (arith, at-place .1, h .held .holds .room)) ∙ ap (with-tally a t) (at-place .2)
             ∙ ap (λ (kind : ℕ).
             cell-slot (head cs) (record { slot = x; kind = kind; span = span-from (n .point .key) (n .point .key); tally = a; stamp = t })) put≡ in
             rw (overwritten k a t (g .points) n, append-map point-cell (n .before) (written-over a t (n .point) ∷ n .after))
@@ -88,9 +89,9 @@ module _ {g : acting.Points} {e : List ℕ} {first : ℕ} (h : PointsHeld g e fi
 
       has : s ≢ 0 → names (g .points) k ≡ true
       has nz = by-cases (names (g .points) k) (λ e. e)
-          (λ e. absurd (nz (s-is ∙ ap (λ (ps : List (Point ℕ ℕ)). head (map point-cell ps)) (select-none (λ p. eqb (p .key) k) (g .points) e))))
+          (λ e. absurd (nz (s-is ∙ ap (λ (ps : List (Point ℕ Tally)). head (map point-cell ps)) (select-none (λ p. eqb (p .key) k) (g .points) e))))
 
-      pub kept : s ≡ 0 → (a t : ℕ) → Overwritten g k a t e false
+      pub kept : s ≡ 0 → (a : Tally) (t : ℕ) → Overwritten g k a t e false
       kept z a t = record { held = rw (untouched k a t (g .points) (lacks z)) (h .held); found-is = sym (lacks z) }
 
       module _ (nz : s ≢ 0) where
@@ -100,5 +101,5 @@ module _ {g : acting.Points} {e : List ℕ} {first : ℕ} (h : PointsHeld g e fi
         pub slot-in-table : InTable e s
         slot-in-table = omega (arith, slot-is named, at-place named .1, h .held .holds .room)
 
-        pub changed : (a t : ℕ) → Overwritten g k a t (rewritten-words e s a t) true
+        pub changed : (a : Tally) (t : ℕ) → Overwritten g k a t (rewritten-words e s a t) true
         changed a t = record { held = rw (slot-is named) (over named a t); found-is = sym (has nz) }

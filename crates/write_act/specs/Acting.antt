@@ -4,6 +4,7 @@ use mathlib.Core.Bool.{Bool, true, false}
 use mathlib.Core.List.{List, _∷_, map}
 use Prim.Native.Nat.{ℕ, _≤_}
 use Rattle.lists.specs.All.{All, Ascending}
+use Rattle.model.specs.declared.Tally.{Tally}
 use Rattle.model.specs.Records.{Point, State, is-put, level}
 use Rattle.model.specs.Merge.{names, point-before}
 use Rattle.model.specs.Steps.{Write, put, delete, delete-range, overwrite, act-deepest}
@@ -16,7 +17,7 @@ pub record Points : Type 0 where
   pub slots : ℕ
   pub clock : ℕ
   pub free : List ℕ
-  pub points : List (Point ℕ ℕ)
+  pub points : List (Point ℕ Tally)
   pub others : List (List Cell)
 
 pub record PointsHeld (g : Points) (e : List ℕ) (first : ℕ) : Type 0 where
@@ -27,17 +28,17 @@ pub record PointsHeld (g : Points) (e : List ℕ) (first : ℕ) : Type 0 where
   pub puts : All (λ p. is-put (p .entry) ≡ true) (g .points)
 
 -- "a put changes tally and stamp of its docket"
-pub record Overwritten (g : Points) (k a t : ℕ) (e : List ℕ) (found : Bool) : Type 0 where
+pub record Overwritten (g : Points) (k : ℕ) (a : Tally) (t : ℕ) (e : List ℕ) (found : Bool) : Type 0 where
   pub held : Held (g .slots) (g .clock) (g .free) (map point-cell (map (overwrite k a t) (g .points)) ∷ g .others) e
   pub found-is : found ≡ names (g .points) k
 
 -- Level L has the docket of a put; a delete asks for none.
-abbrev pub can-act : Write ℕ → State ℕ ℕ → Bool
+abbrev pub can-act : Write Tally → State ℕ Tally → Bool
 can-act (put k a) s = names (level (s .settings .deepest) s .points) k
 can-act (delete k) s = true
 can-act (delete-range lo hi date) s = true
 
-pub record Acted (g : Store) (v : Write ℕ) (e l e′ l′ : List ℕ) (done : Bool) : Type 0 where
+pub record Acted (g : Store) (v : Write Tally) (e l e′ l′ : List ℕ) (done : Bool) : Type 0 where
   pub laid : Laid (at-state g (act-deepest (g .time) v (g .state))) e′ l′
   pub done-is : done ≡ can-act v (g .state)
   pub kept : done ≡ false → (e′ ≡ e) × (l′ ≡ l)

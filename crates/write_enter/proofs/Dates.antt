@@ -10,6 +10,7 @@ use Rattle.lists.specs.Lists.{any, select}
 use Rattle.lists.specs.All.{All, Ascending}
 use Rattle.lists.proofs.Bools.{by-cases, both-false, and-left, and-right, and-false-right, or-false, or-false-intro, eqb-sym}
 use Rattle.lists.proofs.Tests.{all-weaken}
+use Rattle.model.specs.declared.Tally.{Tally}
 use Rattle.model.specs.Records.{Range}
 use Rattle.model.specs.Merge.{range-before, same-range, range-goes, united, later}
 use Rattle.model.specs.Steps.{Write, put, delete, delete-range, single, unplaced}
@@ -21,7 +22,7 @@ use Rattle.merge_join.proofs.Ranges.{Spanned}
 use Rattle.write_record.specs.Records.{record-of}
 use Rattle.write_record.specs.declared.Record.{Record}
 use Rattle.write_record.proofs.Dooms.{ranges-gone}
-use Rattle.write_enter.specs.Uniting.{first-date}
+use Rattle.write_enter.specs.Uniting.{first-date, later-date}
 use Rattle.write_enter.specs.Uniting as uniting
 
 -- The date of the first of some ranges, 0 where there is none.
@@ -34,17 +35,17 @@ first-date-is [] = refl
 first-date-is (q ∷ qs) = refl
 
 -- A range delete with the later of its date and another.
-abbrev pub later-dated : ℕ → Write ℕ → Write ℕ
+abbrev pub later-dated : ℕ → Write Tally → Write Tally
 later-dated d (put k a) = put k a
 later-dated d (delete k) = delete k
 later-dated d (delete-range lo hi date) = delete-range lo hi (max date d)
 
-pub later-dated-dockets : (d : ℕ) (v : Write ℕ) → bad-docket (written (later-dated d v)) ≡ bad-docket (written v)
+pub later-dated-dockets : (d : ℕ) (v : Write Tally) → bad-docket (written (later-dated d v)) ≡ bad-docket (written v)
 later-dated-dockets d (put k a) = refl
 later-dated-dockets d (delete k) = refl
 later-dated-dockets d (delete-range lo hi date) = refl
 
-pub later-dated-kind : (d : ℕ) (v : Write ℕ) → record-of (later-dated d v) .kind ≡ record-of v .kind
+pub later-dated-kind : (d : ℕ) (v : Write Tally) → record-of (later-dated d v) .kind ≡ record-of v .kind
 later-dated-kind d (put k a) = refl
 later-dated-kind d (delete k) = refl
 later-dated-kind d (delete-range lo hi date) = refl
@@ -87,10 +88,10 @@ later-alike r (q ∷ qs) a s = by-cases (same-range q r)
     (λ p. rw (p, same-sym r q ∙ p) (later-alike r qs (a .1) (s .1)))
 
 -- What the write is, entered among ranges: as it came, or with the date of the one that goes.
-abbrev pub entered-write : ℕ → List (Range ℕ) → Write ℕ → Write ℕ
+abbrev pub entered-write : ℕ → List (Range ℕ) → Write Tally → Write Tally
 entered-write t qs v = later-dated (range-date (select (range-goes (unplaced t v .ranges)) qs)) v
 
-pub single-later : (x t : ℕ) (v : Write ℕ) (qs : List (Range ℕ)) → Ascending range-before qs → All (λ q. (1 ≤ q .stamp) × (q .stamp ≤ t)) qs
+pub single-later : (x t : ℕ) (v : Write Tally) (qs : List (Range ℕ)) → Ascending range-before qs → All (λ q. (1 ≤ q .stamp) × (q .stamp ≤ t)) qs
     → map (later qs) (single x t v .ranges) ≡ single x t (entered-write t qs v) .ranges
 unfolding single any
 single-later x t (put k a) qs o s = refl
@@ -99,18 +100,18 @@ single-later x t (delete-range lo hi date) qs o s =
     ap (λ r. r ∷ []) (later-alike (record { slot = x; lo = lo; hi = hi; date = date; stamp = t }) qs o s)
 
 -- And so is its record.
-later-record : (d : ℕ) (v : Write ℕ) → record-of v .kind ≡ 3
-    → record { kind = record-of v .kind; lo = record-of v .lo; hi = record-of v .hi; tally = max (record-of v .tally) d } ≡ record-of (later-dated d v)
+later-record : (d : ℕ) (v : Write Tally) → record-of v .kind ≡ 3
+    → record { kind = record-of v .kind; lo = record-of v .lo; hi = record-of v .hi; tally = later-date d (record-of v .tally) } ≡ record-of (later-dated d v)
 later-record d (put k a) q = absurd (omega arith)
 later-record d (delete k) q = absurd (omega arith)
 later-record d (delete-range lo hi date) q = refl
 
-pub united-record : (t : ℕ) (v : Write ℕ) {w : Record} → w ≡ record-of v → w .kind ≡ 3 → (qs : List (Range ℕ)) → All Spanned qs
+pub united-record : (t : ℕ) (v : Write Tally) {w : Record} → w ≡ record-of v → w .kind ≡ 3 → (qs : List (Range ℕ)) → All Spanned qs
     → uniting.united (map range-cell qs) w ≡ record-of (entered-write t qs v)
 united-record t v {w} is ranged qs spans =
     let gone : List (Range ℕ) = select (range-goes (unplaced t v .ranges)) qs in
     let date : first-date (select (doomed (which.Range (w .lo) (w .hi))) (map range-cell qs)) ≡ range-date gone =
     ap first-date (ranges-gone tt t v w is qs spans ranged) ∙ first-date-is gone in
-    ap (λ (d : ℕ). record { kind = w .kind; lo = w .lo; hi = w .hi; tally = max (w .tally) d }) date
-    ∙ ap (λ (r : Record). record { kind = r .kind; lo = r .lo; hi = r .hi; tally = max (r .tally) (range-date gone) }) is
+    ap (λ (d : ℕ). record { kind = w .kind; lo = w .lo; hi = w .hi; tally = later-date d (w .tally) }) date
+    ∙ ap (λ (r : Record). record { kind = r .kind; lo = r .lo; hi = r .hi; tally = later-date (range-date gone) (r .tally) }) is
     ∙ later-record (range-date gone) v (ap (λ (r : Record). r .kind) (sym is) ∙ ranged)

@@ -9,6 +9,7 @@ use lib.Dec.{eqb}
 use lib.ListN.{length, length-map}
 use Rattle.lists.specs.Lists.{merge}
 use Rattle.lists.proofs.Tests.{all-select, length-select}
+use Rattle.model.specs.declared.Tally.{Tally}
 use Rattle.model.specs.Records as model
 use Rattle.model.specs.Merge.{point-before, range-before, point-goes, range-goes, earlier, merged}
 use Rattle.model.specs.Steps.{Write, single, unplaced}
@@ -41,7 +42,7 @@ module _ {g : Entry} {e : List ℕ} {buffer : Level} {clock : ℕ} {w : Record} 
   abbrev x : ℕ
   x = room h .first
 
-  entered : model.Level ℕ ℕ
+  entered : model.Level ℕ Tally
   entered = merged (single x (g .time) (g .write)) (g .buffer)
 
   pub buffer-held : buffer .held ≡ length (g .buffer .points) + length (g .buffer .ranges)
@@ -65,7 +66,7 @@ module _ {g : Entry} {e : List ℕ} {buffer : Level} {clock : ℕ} {w : Record} 
   ranges-fewer = omega (arith, length-select (range-goes (unplaced (g .time) (g .write) .ranges)) (g .buffer .ranges))
 
   -- A record as the code has it, and what the write owes.
-  cell-is : {r : Record} (v : Write ℕ) → r ≡ record-of v → record-cell x clock r ≡ record-cell x (g .time) (record-of v)
+  cell-is : {r : Record} (v : Write Tally) → r ≡ record-of v → record-cell x clock r ≡ record-cell x (g .time) (record-of v)
   cell-is {r} v is = ap (λ (t : ℕ). record-cell x t r) (h .time-is) ∙ ap (record-cell x (g .time)) is
 
   owed-is : earlier (cond (eqb (w .kind) 1) 0 clock) (buffer .owed) ≡ entered .owed
@@ -120,7 +121,7 @@ module _ {g : Entry} {e : List ℕ} {buffer : Level} {clock : ℕ} {w : Record} 
     kind-ranged = ap (λ (r : Record). r .kind) (sym (h .write-is)) ∙ ranged
 
     -- The write with the later date.
-    abbrev dated : Write ℕ
+    abbrev dated : Write Tally
     dated = entered-write (g .time) (g .buffer .ranges) (g .write)
 
     kind-dated : record-of dated .kind ≡ 3
@@ -163,7 +164,7 @@ module _ {g : Entry} {e : List ℕ} {buffer : Level} {clock : ℕ} {w : Record} 
         held = swapped (g .slots) (g .clock) (room h .rest) (map range-cell (entered .ranges)) (map point-cell (entered .points)) (g .others) e′
             (rw (← ranges-is, ← points-stay) (s .held));
         buffer-is =
-            row-is (level-of entered) (points≡ ∙ ap (λ (ps : List (model.Point ℕ ℕ)). head (map point-cell ps)) points-stay)
+            row-is (level-of entered) (points≡ ∙ ap (λ (ps : List (model.Point ℕ Tally)). head (map point-cell ps)) points-stay)
             (s .head-is ∙ ap head ranges-is)
             (omega (arith, buffer-held, points-fewer, ranges-fewer, entered-held x (g .time) (g .write) (g .buffer)))
             (owed≡ ∙ ap (λ (k : ℕ). earlier (cond (eqb k 1) 0 clock) (buffer .owed)) (sym ranged) ∙ owed-is);

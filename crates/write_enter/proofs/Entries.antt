@@ -10,6 +10,7 @@ use lib.ListN.{length, length-map}
 use borrow.Author.Tests.{ltb-false}
 use Rattle.lists.specs.Lists.{none, select, reject}
 use Rattle.lists.proofs.Bools.{or-false-left, or-false-right}
+use Rattle.model.specs.declared.Tally.{Tally}
 use Rattle.model.specs.Records as model
 use Rattle.model.specs.Merge.{point-goes, range-goes, point-slots, range-slots, release}
 use Rattle.model.specs.Steps.{Write, put, delete, delete-range, unplaced}
@@ -48,7 +49,7 @@ some-room (x ∷ xs) h = record { first = x; rest = xs; is = refl }
 abbrev Fits : Record → Type 0
 Fits r = (r .kind ≤ 3) × (r .lo ≤ 65535) × (r .hi ≤ 65535)
 
-record-fits : (v : Write ℕ) → bad-docket (written v) ≡ false → Fits (record-of v)
+record-fits : (v : Write Tally) → bad-docket (written v) ≡ false → Fits (record-of v)
 record-fits (put k a) d = let low = ltb-false 65535 k d in (omega arith, omega arith, omega arith)
 record-fits (delete k) d = let low = ltb-false 65535 k d in (omega arith, omega arith, omega arith)
 record-fits (delete-range lo hi date) d =
@@ -56,10 +57,10 @@ record-fits (delete-range lo hi date) d =
     let order = ltb-false hi lo (or-false-right (ltb 65535 hi) (ltb hi lo) d) in (omega arith, omega arith, omega arith)
 
 -- What of the buffer goes, and what stays.
-abbrev pub gone-points : Entry → List (model.Point ℕ ℕ)
+abbrev pub gone-points : Entry → List (model.Point ℕ Tally)
 gone-points g = select (point-goes (unplaced (g .time) (g .write))) (g .buffer .points)
 
-abbrev pub kept-points : Entry → List (model.Point ℕ ℕ)
+abbrev pub kept-points : Entry → List (model.Point ℕ Tally)
 kept-points g = reject (point-goes (unplaced (g .time) (g .write))) (g .buffer .points)
 
 abbrev pub gone-ranges : Entry → List (model.Range ℕ)

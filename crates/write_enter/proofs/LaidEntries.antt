@@ -6,6 +6,7 @@ use Prim.Native.Nat.{ℕ, _≤_}
 use native.Mathlib.Omega.{arith}
 use lib.ListN.{set, length-map}
 use Rattle.lists.specs.Lists.{none}
+use Rattle.model.specs.declared.Tally.{Tally}
 use Rattle.model.specs.Records as model
 use Rattle.model.specs.Records.{State, empty, level, stored}
 use Rattle.model.specs.Merge.{release, merged}
@@ -27,7 +28,7 @@ use Rattle.chain_cells.proofs.Bounds.{first-head-fits, second-head-fits, two-fe
 use Rattle.write_record.proofs.OneLevel.{words-set, level-out, level-back}
 
 -- The buffer of a store, a write, and the chains of the other levels.
-abbrev pub entry : Store → Write ℕ → Entry
+abbrev pub entry : Store → Write Tally → Entry
 entry g v = record {
   slots = g .slots;
   clock = g .state .clock;
@@ -39,7 +40,7 @@ entry g v = record {
 }
 
 -- What the entry asks for, of the tables of a store.
-pub entry-asked : {g : Store} {e l : List ℕ} {clock : ℕ} {w : Record} {buffer : Level} (v : Write ℕ)
+pub entry-asked : {g : Store} {e l : List ℕ} {clock : ℕ} {w : Record} {buffer : Level} (v : Write Tally)
     → Laid g e l → g .time ≡ clock → w ≡ record-of v → bad-docket (written v) ≡ false
     → none (release (displaced clock v (g .state)) (g .state .free)) ≡ false → buffer ≡ level-at l 0 → EntryHeld (entry g v) e buffer clock w
 entry-asked {g} {e} {l} v laid t is d room row = record {
@@ -58,7 +59,7 @@ pub entering-asked : {g : Store} {e l : List ℕ} {clock : ℕ} {w : Record} {bu
 entering-asked n = entry-asked (n .write) (n .laid) (n .time-is) (n .write-is) (n .dockets) (n .room)
 
 module _ {g : Entry} {e : List ℕ} {r : Level} (n : Entered g e r) where
-  result : model.Level ℕ ℕ
+  result : model.Level ℕ Tally
   result = merged (single (n .first) (g .time) (g .write)) (g .buffer)
 
   -- The entered buffer's row fits its words.
@@ -71,22 +72,22 @@ module _ {g : Entry} {e : List ℕ} {r : Level} (n : Entered g e r) where
   )
 
 -- The entry leaves the clock, and does not hang on it.
-timed-enter-at : (t : ℕ) (v : Write ℕ) (p : State ℕ ℕ) (free : List ℕ) → timed t (enter-at t v p free) ≡ enter-at t v (timed t p) free
+timed-enter-at : (t : ℕ) (v : Write Tally) (p : State ℕ Tally) (free : List ℕ) → timed t (enter-at t v p free) ≡ enter-at t v (timed t p) free
 unfolding enter-at
 timed-enter-at t v p [] = refl
 timed-enter-at t v p (x ∷ free) = refl
 
-enter-at-clock : (t : ℕ) (v : Write ℕ) (p : State ℕ ℕ) (free : List ℕ) → enter-at t v p free .clock ≡ p .clock
+enter-at-clock : (t : ℕ) (v : Write Tally) (p : State ℕ Tally) (free : List ℕ) → enter-at t v p free .clock ≡ p .clock
 unfolding enter-at
 enter-at-clock t v p [] = refl
 enter-at-clock t v p (x ∷ free) = refl
 
-module _ {g : Store} {e l : List ℕ} (v : Write ℕ) (laid : Laid g e l) (low : 1 ≤ g .time) (d : bad-docket (written v) ≡ false)
+module _ {g : Store} {e l : List ℕ} (v : Write Tally) (laid : Laid g e l) (low : 1 ≤ g .time) (d : bad-docket (written v) ≡ false)
     (day : bad-date (g .time) (written v) ≡ false) (room : none (release (displaced (g .time) v (g .state)) (g .state .free)) ≡ false) where
   entered-formed : Formed (g .slots) (timed (g .time) (enter (g .time) v (g .state)))
   unfolding enter
   entered-formed =
-      let p : State ℕ ℕ = timed (g .time) (g .state) in
+      let p : State ℕ Tally = timed (g .time) (g .state) in
       let free : List ℕ = release (displaced (g .time) v (g .state)) (g .state .free) in
       rw (timed-enter-at (g .time) v (g .state) free)
       (at-formed (g .slots) (g .time) p (enter (g .time) v p) (laid .formed)
@@ -96,8 +97,8 @@ module _ {g : Store} {e l : List ℕ} (v : Write ℕ) (laid : Laid g e l) (low :
   entered-laid : {e′ : List ℕ} {r : Level} → Entered (entry g v) e′ r → Laid (at-state g (enter (g .time) v (g .state))) e′ (set-row l 0 (row-at r))
   unfolding enter enter-at
   entered-laid {e′} {r} n =
-      let p : State ℕ ℕ = g .state in
-      let buffer : model.Level ℕ ℕ = merged (single (n .first) (g .time) v) (level 0 p) in
+      let p : State ℕ Tally = g .state in
+      let buffer : model.Level ℕ Tally = merged (single (n .first) (g .time) v) (level 0 p) in
       let state≡ : enter (g .time) v p ≡ stored p (n .rest) (set (p .levels) 0 buffer) = ap (enter-at (g .time) v p) (n .free) in
       rw state≡
       (level-back laid 0 buffer (n .rest) (n .held) (rw state≡ at entered-formed)
@@ -105,7 +106,7 @@ module _ {g : Store} {e l : List ℕ} (v : Write ℕ) (laid : Laid g e l) (low :
       ∙ sym (words-set p (n .rest) 0 buffer (omega (arith, laid .formed .size)))))
 
 -- The same at the clock of the code.
-pub entry-ends : {g : Store} {e l e′ l′ : List ℕ} {clock : ℕ} {r : Level} (v : Write ℕ)
+pub entry-ends : {g : Store} {e l e′ l′ : List ℕ} {clock : ℕ} {r : Level} (v : Write Tally)
     → Laid g e l → 1 ≤ clock → g .time ≡ clock → bad-docket (written v) ≡ false → bad-date clock (written v) ≡ false
     → none (release (displaced clock v (g .state)) (g .state .free)) ≡ false → Entered (entry g v) e′ r → l′ ≡ set-row l 0 (row-at r)
     → Laid (at-state g (enter clock v (g .state))) e′ l′

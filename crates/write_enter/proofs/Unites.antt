@@ -27,7 +27,7 @@ unfolding select
 first-selected n e test [] h = record { none = λ q. refl; inside = omega arith; dated = λ ne. absurd (ne refl) }
 first-selected n e test (c ∷ cs) h =
     cond-elim (First n e) (test c) (c ∷ select test cs) (select test cs)
-    (λ p. record { none = λ q. absurd (omega (arith, h .0)); inside = h .1; dated = λ ne. ap (λ (r : Slot). r .tally) (h .2) })
+    (λ p. record { none = λ q. absurd (omega (arith, h .0)); inside = h .1; dated = λ ne. ap (λ (r : Slot). r .tally .count) (h .2) })
     (λ p. first-selected n e test cs (h .3))
 
 module _ {g : Chain} {e : List ℕ} {ranges : ℕ} (h : OneHeld g e ranges) (w : Record) where
@@ -39,8 +39,8 @@ module _ {g : Chain} {e : List ℕ} {ranges : ℕ} (h : OneHeld g e ranges) (w :
   first-alike = first-selected (g .slots) e (doomed (Range (w .lo) (w .hi))) (g .cells) (h .held .holds .each .1 .0)
 
   -- Its own date is the later one.
-  own-later : first-date alike ≤ w .tally → w ≡ united (g .cells) w
-  own-later below = let own : max (w .tally) (first-date alike) ≡ w .tally = omega arith in rw own
+  own-later : first-date alike ≤ w .tally .count → w ≡ united (g .cells) w
+  own-later below = let own : max (w .tally .count) (first-date alike) ≡ w .tally .count = omega arith in rw own
 
   pub no-alike : {s : ℕ} → s ≡ head alike → s ≡ 0 → w ≡ united (g .cells) w
   no-alike found zero = own-later (omega (arith, first-alike .none (sym found ∙ zero)))
@@ -53,8 +53,8 @@ module _ {g : Chain} {e : List ℕ} {ranges : ℕ} (h : OneHeld g e ranges) (w :
     date-is = ap (date-of e) found ∙ first-alike .dated (λ q. some (found ∙ q))
 
     module _ {d : ℕ} (read : d ≡ date-of e s) where
-      pub alike-earlier : d ≤ w .tally → w ≡ united (g .cells) w
+      pub alike-earlier : d ≤ w .tally .count → w ≡ united (g .cells) w
       alike-earlier below = own-later (omega (arith, read, date-is))
 
-      pub alike-later : w .tally < d → record { kind = w .kind; lo = w .lo; hi = w .hi; tally = d } ≡ united (g .cells) w
-      alike-later above = let taken : max (w .tally) (first-date alike) ≡ d = omega (arith, read, date-is) in rw taken
+      pub alike-later : w .tally .count < d → record { kind = w .kind; lo = w .lo; hi = w .hi; tally = record { count = d; price = w .tally .price } } ≡ united (g .cells) w
+      alike-later above = let taken : max (w .tally .count) (first-date alike) ≡ d = omega (arith, read, date-is) in rw taken

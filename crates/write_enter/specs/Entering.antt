@@ -4,6 +4,7 @@ use mathlib.Core.Bool.{false}
 use mathlib.Core.List.{List, _∷_, map}
 use Prim.Native.Nat.{ℕ}
 use Rattle.lists.specs.Lists.{none}
+use Rattle.model.specs.declared.Tally.{Tally}
 use Rattle.model.specs.Records as model
 use Rattle.model.specs.Merge.{gone, release, merged}
 use Rattle.model.specs.Steps.{Write, single, unplaced, displaced}
@@ -22,9 +23,9 @@ pub record Entry : Type 0 where
   pub slots : ℕ
   pub clock : ℕ
   pub time : ℕ
-  pub write : Write ℕ
+  pub write : Write Tally
   pub free : List ℕ
-  pub buffer : model.Level ℕ ℕ
+  pub buffer : model.Level ℕ Tally
   pub others : List (List Cell)
 
 -- What the entry frees in the buffer comes before the free slots that there were.
@@ -51,7 +52,7 @@ pub record Entered (g : Entry) (e : List ℕ) (buffer : Level) : Type 0 where
 
 -- A store with room for the write.
 pub record Entering (g : Store) (e l : List ℕ) (clock : ℕ) (w : Record) : Type 0 where
-  pub write : Write ℕ
+  pub write : Write Tally
   pub laid : Laid g e l
   pub time-is : g .time ≡ clock
   pub write-is : w ≡ record-of write

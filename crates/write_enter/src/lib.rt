@@ -3,6 +3,7 @@ use chain_cells::splice;
 use chain_sieve::Doomed;
 use chain_sieve::first_doomed;
 use chain_sieve::sieve;
+use model::Tally;
 use table_levels::Level;
 use table_levels::earlier;
 use table_levels::level_at;
@@ -21,6 +22,7 @@ ghost use mathlib.Core.Logic.{_≢_};
 ghost use mathlib.Core.Bool.{cond, false};
 ghost use Prim.Native.Nat.{ℕ, _≤_};
 ghost use lib.Dec.{eqb};
+ghost use Rattle.model.specs.declared.Tally.{Tally};
 ghost use Rattle.lists.specs.All.{Exists};
 ghost use Rattle.lists.specs.Lists.{none};
 ghost use Rattle.model.specs.Merge.{earlier, release};
@@ -37,7 +39,7 @@ ghost use Rattle.write_enter.specs.Entering.{Entry, EntryHeld, Entered, 
 pub fn enter(e: &mut [u32], l: &mut [u32], clock: u32, w: Record)
     requires { ⌜ Exists (λ g. Entering g (now e) (now l) clock w) ⌝ }
     requires { ⌜ 1 ≤ clock ⌝ }
-    ensures { λ _. ⌜ ((g : Store) (v : Write ℕ) → Laid g (now (e .entry)) (now (l .entry)) → g .time ≡ clock → w ≡ record-of v → bad-docket (written v) ≡ false
+    ensures { λ _. ⌜ ((g : Store) (v : Write Tally) → Laid g (now (e .entry)) (now (l .entry)) → g .time ≡ clock → w ≡ record-of v → bad-docket (written v) ≡ false
         → bad-date clock (written v) ≡ false → none (release (displaced clock v (g .state)) (g .state .free)) ≡ false
         → Laid (at-state g (enter clock v (g .state))) (now (e .exit)) (now (l .exit))) ⌝ }
 {
@@ -99,14 +101,17 @@ fn unite(e: &[u32], ranges: usize, w: Record) -> Record
         return w;
     }
     let date = date_of(e, alike);
-    if date <= w.tally {
+    if date <= w.tally.count {
         return w;
     }
     Record {
         kind: w.kind,
         lo: w.lo,
         hi: w.hi,
-        tally: date,
+        tally: Tally {
+            count: date,
+            price: w.tally.price,
+        },
     }
 }
 

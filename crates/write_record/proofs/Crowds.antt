@@ -10,6 +10,7 @@ use borrow.Author.Tests.{eq-eqb, ne-eqb}
 use Rattle.lists.specs.Lists.{none, select}
 use Rattle.lists.proofs.Bools.{cond-elim}
 use Rattle.lists.proofs.Tests.{none-map}
+use Rattle.model.specs.declared.Tally.{Tally}
 use Rattle.model.specs.Records as model
 use Rattle.model.specs.Records.{level}
 use Rattle.model.specs.Merge.{point-goes, range-goes, point-slots, range-slots}
@@ -44,9 +45,9 @@ module _ (n : ℕ) (e : List ℕ) where
       cond-elim (λ ds. eqb (head ds) 0 ≡ none ds) (t c) (c ∷ select t cs) (select t cs)
       (λ p. ne-eqb (c .slot) 0 (λ q. absurd (omega (arith, h .0)))) (λ p. selected-none t cs (h .3))
 
-module _ {g : Store} {e l : List ℕ} (laid : Laid g e l) (v : Write ℕ) {w : Record} (is : w ≡ record-of v) where
+module _ {g : Store} {e l : List ℕ} (laid : Laid g e l) (v : Write Tally) {w : Record} (is : w ≡ record-of v) where
   -- The points and ranges of the buffer that the write would make go.
-  abbrev points-gone-of : List (model.Point ℕ ℕ)
+  abbrev points-gone-of : List (model.Point ℕ Tally)
   points-gone-of = select (point-goes (unplaced (g .time) v)) (level 0 (g .state) .points)
 
   abbrev ranges-gone-of : List (model.Range ℕ)
@@ -70,7 +71,7 @@ module _ {g : Store} {e l : List ℕ} (laid : Laid g e l) (v : Write ℕ) {w : R
       ap (λ (k : ℕ). eqb k 0) q
       ∙ selected-none (g .slots) e (doomed (displaced-points w)) (map point-cell (level 0 (g .state) .points)) (level-out laid 0 .holds .each .1 .0)
       ∙ ap none (points-gone tt (g .time) v w is (level 0 (g .state) .points) (laid-formed g e l laid 0 .keys))
-      ∙ none-map point-cell points-gone-of ∙ sym (none-map (λ (p : model.Point ℕ ℕ). p .slot) points-gone-of)
+      ∙ none-map point-cell points-gone-of ∙ sym (none-map (λ (p : model.Point ℕ Tally). p .slot) points-gone-of)
 
   ranges-none : w .kind ≡ 3 → {s : ℕ} → s ≡ head range-cells-gone → eqb s 0 ≡ none (range-slots ranges-gone-of)
   ranges-none ranged q =

@@ -9,6 +9,7 @@ use Rattle.lists.specs.Lists.{select, reject}
 use Rattle.lists.specs.All.{All}
 use Rattle.lists.proofs.Bools.{eqb-sym}
 use Rattle.lists.proofs.Tests.{all-weaken}
+use Rattle.model.specs.declared.Tally.{Tally}
 use Rattle.model.specs.Records as model
 use Rattle.model.specs.Records.{Point}
 use Rattle.model.specs.Merge.{point-goes, range-goes}
@@ -25,12 +26,12 @@ use Rattle.write_record.specs.Records.{record-of, displaced-points}
 use Rattle.write_record.specs.declared.Record.{Record}
 use Rattle.write_record.proofs.Singles.{single-goes, single-range-goes}
 
-module _ {S : Type 0} (x : S) (t : ℕ) (v : Write ℕ) (w : Record) (is : w ≡ record-of v) where
+module _ {S : Type 0} (x : S) (t : ℕ) (v : Write Tally) (w : Record) (is : w ≡ record-of v) where
   -- A point's cell passes the test where the write makes the point go.
-  point-doomed : (p : Point ℕ ℕ) → Keyed p → doomed (displaced-points w) (point-cell p) ≡ point-goes (single x t v) p
+  point-doomed : (p : Point ℕ Tally) → Keyed p → doomed (displaced-points w) (point-cell p) ≡ point-goes (single x t v) p
   point-doomed p low = ap (λ (r : Record). doomed (displaced-points r) (point-cell p)) is ∙ single-goes x t v p low
 
-  module _ (ps : List (Point ℕ ℕ)) (keys : All Keyed ps) where
+  module _ (ps : List (Point ℕ Tally)) (keys : All Keyed ps) where
     pub points-gone : select (doomed (displaced-points w)) (map point-cell ps) ≡ map point-cell (select (point-goes (single x t v)) ps)
     points-gone = select-map-where point-cell (doomed (displaced-points w)) (point-goes (single x t v)) ps (all-weaken Keyed _ point-doomed ps keys)
 

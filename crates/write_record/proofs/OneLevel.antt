@@ -6,6 +6,7 @@ use native.Mathlib.Omega.{arith}
 use lib.ListN.{length, set, length-map}
 use lib.Seq.{map-set-same}
 use Rattle.lists.proofs.Tests.{set-map}
+use Rattle.model.specs.declared.Tally.{Tally}
 use Rattle.model.specs.Records.{Level, State, empty, level, stored}
 use Rattle.model.specs.Calls.{timed}
 use Rattle.tables.proofs.Rows.{level-table-set}
@@ -23,7 +24,7 @@ use Rattle.table_levels.specs.Levels.{level-at}
 use Rattle.merge_levels.proofs.LevelChains.{points-out, ranges-out, others-stay, level-in, weigh-out}
 use Rattle.merge_levels.proofs.Pair.{read-level}
 
-module _ (p : State ℕ ℕ) (free : List ℕ) (i : ℕ) (v : Level ℕ ℕ) where
+module _ (p : State ℕ Tally) (free : List ℕ) (i : ℕ) (v : Level ℕ Tally) where
   -- The level table with the row of another level at i.
   pub words-set : i < length (p .levels) → level-words (stored p free (set (p .levels) i v)) ≡ set-row (level-words p) i (row-of-level v)
   unfolding level-words
@@ -42,7 +43,7 @@ module _ {g : Store} {e l : List ℕ} (laid : Laid g e l) (i : ℕ) where
   pub level-out : Held (g .slots) (g .state .clock) (g .state .free)
       (map point-cell (level i (g .state) .points) ∷ map range-cell (level i (g .state) .ranges) ∷ level-chains (set (g .state .levels) i empty)) e
   level-out =
-      let p : State ℕ ℕ = g .state in
+      let p : State ℕ Tally = g .state in
       rearranged (g .slots) (p .clock) (p .free) (level-chains (p .levels))
       (map point-cell (level i p .points) ∷ map range-cell (level i p .ranges) ∷ level-chains (set (p .levels) i empty)) e
       (λ f. omega (arith, weigh-out f (p .levels) i))
@@ -50,7 +51,7 @@ module _ {g : Store} {e l : List ℕ} (laid : Laid g e l) (i : ℕ) where
       (record { small = laid .formed .many; holds = laid .entries; once = formed-once (g .slots) (timed (g .time) p) (laid .formed) })
 
   -- A table that holds another level's chains in their place is that of the state with that level at i.
-  pub level-back : (v : Level ℕ ℕ) (free : List ℕ) {e′ l′ : List ℕ}
+  pub level-back : (v : Level ℕ Tally) (free : List ℕ) {e′ l′ : List ℕ}
       → Held (g .slots) (g .state .clock) free (map point-cell (v .points) ∷ map range-cell (v .ranges) ∷ level-chains (set (g .state .levels) i empty)) e′
       → Formed (g .slots) (timed (g .time) (stored (g .state) free (set (g .state .levels) i v)))
       → l′ ≡ level-words (stored (g .state) free (set (g .state .levels) i v))

@@ -9,6 +9,7 @@ use lib.Dec.{eqb}
 use lib.ListN.{length}
 use Rattle.lists.specs.Lists.{any, select, reject, merge}
 use Rattle.lists.proofs.Tests.{select-never, select-same}
+use Rattle.model.specs.declared.Tally.{Tally}
 use Rattle.model.specs.Records.{Range, Level, held}
 use Rattle.model.specs.Merge.{point-before, range-before, point-goes, range-goes, later, earlier, merged, point-slots, range-slots, gone}
 use Rattle.model.specs.Steps.{Write, single, unplaced}
@@ -26,21 +27,21 @@ unfolding any
 no-range-goes R q = refl
 
 -- A level with no range leaves the ranges below it.
-pub merged-no-range : (u l : Level ℕ ℕ) → u .ranges ≡ [] → merged u l .ranges ≡ l .ranges
+pub merged-no-range : (u l : Level ℕ Tally) → u .ranges ≡ [] → merged u l .ranges ≡ l .ranges
 unfolding merged merge
 merged-no-range u l q = rw q (reject-never (range-goes {R = ℕ} []) (no-range-goes ℕ) (l .ranges))
 
 -- A put or a delete makes points go and no range.
-pub no-range-gone : (t : ℕ) (v : Write ℕ) (qs : List (Range ℕ)) → record-of v .kind ≢ 3 → select (range-goes (unplaced t v .ranges)) qs ≡ []
+pub no-range-gone : (t : ℕ) (v : Write Tally) (qs : List (Range ℕ)) → record-of v .kind ≢ 3 → select (range-goes (unplaced t v .ranges)) qs ≡ []
 no-range-gone t v qs ne = rw (single-no-range (tt {0}) t v ne) (select-never (range-goes {R = Unit {0}} []) (no-range-goes (Unit {0})) qs)
 
-pub gone-by-point : (t : ℕ) (v : Write ℕ) (l : Level ℕ ℕ) → record-of v .kind ≢ 3
+pub gone-by-point : (t : ℕ) (v : Write Tally) (l : Level ℕ Tally) → record-of v .kind ≢ 3
     → gone (unplaced t v) l ≡ point-slots (select (point-goes (unplaced t v)) (l .points))
 gone-by-point t v l ne =
     ap (λ rs. point-slots (select (point-goes (unplaced t v)) (l .points)) ++ range-slots rs) (no-range-gone t v (l .ranges) ne)
     ∙ append-nil (point-slots (select (point-goes (unplaced t v)) (l .points)))
 
-module _ (x t : ℕ) (v : Write ℕ) (l : Level ℕ ℕ) where
+module _ (x t : ℕ) (v : Write Tally) (l : Level ℕ Tally) where
   -- What goes is the same before a slot is chosen and after.
   gone-alike : select (point-goes (single x t v)) (l .points) ≡ select (point-goes (unplaced t v)) (l .points)
   gone-alike = select-same (point-goes (single x t v)) (point-goes (unplaced t v)) (point-goes-alike x tt t v) (l .points)

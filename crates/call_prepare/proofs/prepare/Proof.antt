@@ -4,6 +4,7 @@ use mathlib.Core.List.{List}
 use borrow.Author.Needs.{needs}
 use Prim.Native.Nat.{ℕ}
 use Rattle.lists.specs.All.{Exists}
+use Rattle.model.specs.declared.Tally.{Tally}
 use Rattle.model.specs.Calls.{Op, written}
 use Rattle.write_record.specs.declared.Record.{Record}
 use Rattle.call_op.specs.declared.Work.the-variants.{Write}
@@ -27,10 +28,10 @@ wrote : (s : tie.After-work-of) {w : Record} → s .work-of .result ≡ Write w 
 wrote s is = writes _ (entry s .pre) (sym is ∙ s .work-of .ensures)
 
 -- The call has begun as the operation o of an arm, and what the arm does for o it does for the call.
-begun : (s : tie.Start) {o : Op ℕ} → op-of (s .args .op) ≡ o → Began (s .args .e .now) (s .args .l .now) (s .args .clock) o
+begun : (s : tie.Start) {o : Op Tally} → op-of (s .args .op) ≡ o → Began (s .args .e .now) (s .args .l .now) (s .args .clock) o
 begun s is = rw is at (s .pre)
 
-prepares : (s : tie.Start) {o : Op ℕ} → op-of (s .args .op) ≡ o → {e l : List ℕ} {r : Prepared}
+prepares : (s : tie.Start) {o : Op Tally} → op-of (s .args .op) ≡ o → {e l : List ℕ} {r : Prepared}
     → Prepares (s .args .e .now) (s .args .l .now) (s .args .clock) o e l r
     → Prepares (s .args .e .now) (s .args .l .now) (s .args .clock) (op-of (s .args .op)) e l r
 prepares s is d = rw is d

@@ -3,6 +3,7 @@ use mathlib.Core.Path.{_≡_, refl, sym, _∙_}
 use mathlib.Core.Bool.{Bool, false}
 use borrow.Author.Needs.{needs}
 use Prim.Native.Nat.{ℕ}
+use Rattle.model.specs.declared.Tally.{Tally}
 use Rattle.model.specs.Steps.{Write, crowded}
 use Rattle.tables.specs.Placed.{read-state}
 use Rattle.call_refusal.proofs.Begun.{begun-low, begun-laid}
@@ -17,21 +18,21 @@ abbrev entry : tie.After-is-crowded → tie.Start
 entry c = c .before .before .before .before .before
 
 -- At the entry, the write v.
-abbrev Is : tie.Start → Write ℕ → Type 0
+abbrev Is : tie.Start → Write Tally → Type 0
 Is s v = Writes v (s .args .e .now) (s .args .l .now) (s .args .clock) (s .args .w)
 
-abbrev test : tie.Start → Write ℕ → Bool
+abbrev test : tie.Start → Write Tally → Bool
 test s v = crowded (s .args .clock) v (read-state (s .args .e .now) (s .args .l .now))
 
 -- What the code's test tells, for every write that the record stands for.
-asked : (c : tie.After-is-crowded) (v : Write ℕ) → Is (entry c) v → c .is-crowded .result ≡ test (entry c) v
+asked : (c : tie.After-is-crowded) (v : Write Tally) → Is (entry c) v → c .is-crowded .result ≡ test (entry c) v
 asked c v k = c .is-crowded .ensures _ v (begun-laid (k .began)) (k .write-is)
 
-no-room : (c : tie.Then1) (v : Write ℕ) → Is (entry (c .before)) v
+no-room : (c : tie.Then1) (v : Write Tally) → Is (entry (c .before)) v
     → let a = entry (c .before) .args in Crowded v (a .e .now) (a .l .now) (a .clock) (a .w)
 no-room c v k = record { writes = k; no-room = sym (asked (c .before) v k) ∙ c .if1 .taken }
 
-room : (c : tie.Else1) (v : Write ℕ) → Is (entry (c .before)) v → test (entry (c .before)) v ≡ false
+room : (c : tie.Else1) (v : Write Tally) → Is (entry (c .before)) v → test (entry (c .before)) v ≡ false
 room c v k = sym (asked (c .before) v k) ∙ c .if1 .left
 
 is-crowded-requires : tie.Need-is-crowded-requires

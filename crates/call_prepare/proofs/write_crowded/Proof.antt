@@ -3,6 +3,7 @@ use mathlib.Core.Path.{_≡_, refl, sym, _∙_}
 use mathlib.Core.Logic.{_≢_}
 use borrow.Author.Needs.{needs}
 use Prim.Native.Nat.{ℕ}
+use Rattle.model.specs.declared.Tally.{Tally}
 use Rattle.model.specs.Steps.{Write, merge-all}
 use Rattle.tables.specs.Slots.{first-free}
 use Rattle.tables.specs.Placed.{read-state}
@@ -23,11 +24,11 @@ abbrev merged : tie.After-first-free-arg → tie.After-merge-all
 merged c = c .before .before .before .before .before
 
 -- At the entry, the write v without room.
-abbrev Is : tie.Start → Write ℕ → Type 0
+abbrev Is : tie.Start → Write Tally → Type 0
 Is s v = Crowded v (s .args .e .now) (s .args .l .now) (s .args .clock) (s .args .w)
 
 -- What the merges leave, for every write that the record stands for.
-worked : (c : tie.After-merge-all) (v : Write ℕ) → Is (entry c) v
+worked : (c : tie.After-merge-all) (v : Write Tally) → Is (entry c) v
     → let a = entry c .args in let e = a .e .now in let l = a .l .now in
     Worked (store e l (a .clock)) (merge-all (read-state e l)) (c .merge-all .last .0) (c .merge-all .last .1 .0) (c .merge-all .result)
 worked c v k = c .merge-all .ensures _ (begun-laid (k .writes .began))

@@ -2,7 +2,7 @@
 use mathlib.Core.Path.{_≡_, ap, _∙_}
 use Prim.Native.Nat.{ℕ, max}
 use native.Mathlib.Omega.{arith}
-use Rattle.tables.specs.Slots.{slot-at, set-slot, date-of, stamp-of, with-value}
+use Rattle.tables.specs.Slots.{slot-at, set-slot, date-of, stamp-of, with-date}
 use Rattle.chain_links.specs.Links.{stamped}
 use borrow.Author.Needs.{needs}
 use Rattle.chain_links.proofs.take_later.Statement.{statement}
@@ -33,8 +33,8 @@ stamp-of-requires-2 c κs = search needs
 later-requires-2 : tie.Need-later-requires-2
 later-requires-2 c κs = search needs
 
-set-value-requires : tie.Need-set-value-requires
-set-value-requires c κs = search needs
+set-date-requires : tie.Need-set-date-requires
+set-date-requires c κs = search needs
 
 same-length : tie.Need-same-length
 same-length c = search needs
@@ -51,9 +51,9 @@ returns c =
     omega (arith, first .later .ensures, first .before .date-of2 .ensures, first .before .before .before .date-of .ensures) in
     let stamp≡ : both .later2 .result ≡ max (stamp-of e (a .slot)) (stamp-of e (a .other)) =
     omega (arith, both .later2 .ensures, both .before .stamp-of2 .ensures, both .before .before .before .stamp-of .ensures) in
-    written .set-value .ensures
-    ∙ ap (λ (date : ℕ). set-slot e (a .slot) (with-value date (both .later2 .result) (slot-at e (a .slot)))) date≡
-    ∙ ap (λ (stamp : ℕ). set-slot e (a .slot) (with-value (max (date-of e (a .slot)) (date-of e (a .other))) stamp (slot-at e (a .slot)))) stamp≡
+    written .set-date .ensures
+    ∙ ap (λ (date : ℕ). set-slot e (a .slot) (with-date date (both .later2 .result) (slot-at e (a .slot)))) date≡
+    ∙ ap (λ (stamp : ℕ). set-slot e (a .slot) (with-date (max (date-of e (a .slot)) (date-of e (a .other))) stamp (slot-at e (a .slot)))) stamp≡
 
 pub take-later-spec : {M : Type 1} → statement M
 take-later-spec =
@@ -65,6 +65,6 @@ take-later-spec =
     stamp-of-requires
     stamp-of-requires-2
     later-requires-2
-    set-value-requires
+    set-date-requires
     same-length
     returns)

@@ -1,9 +1,11 @@
 -- `check_kinds::is_free`: each return decides the four tests of a free row, in their order.
 use Rattle.lists.proofs.Branches.{equal, unequal}
-use mathlib.Core.Path.{_≡_, refl}
+use mathlib.Core.Path.{_≡_, refl, sym, _∙_}
 use mathlib.Core.Bool.{true}
 use lib.Dec.{eqb}
-use Rattle.tables.specs.Slots.{kind-of, span-of, tally-of}
+use Rattle.tables.specs.Slots.{kind-of, span-of}
+use Rattle.tables.specs.Sound.{is-untallied}
+use borrow.Author.Tests.{not-true, not-false}
 use borrow.Author.Needs.{needs}
 use Rattle.check_kinds.proofs.is_free.Statement.{statement}
 use Rattle.check_kinds.proofs.is_free.Tie as tie
@@ -19,8 +21,8 @@ kind-zero c = equal (c .before .kind-of .ensures) refl (c .if1 .left)
 span-zero : (c : tie.Else2) → let a = entry (c .before .before) .args in eqb (span-of (a .e .now) (a .s)) 0 ≡ true
 span-zero c = equal (c .before .span-of .ensures) refl (c .if2 .left)
 
-tally-zero : (c : tie.Else3) → let a = entry (c .before .before .before .before) .args in eqb (tally-of (a .e .now) (a .s)) 0 ≡ true
-tally-zero c = equal (c .before .tally-of .ensures) refl (c .if3 .left)
+untallied : (c : tie.Else3) → let a = entry (c .before .before .before .before) .args in is-untallied (a .e .now) (a .s) ≡ true
+untallied c = sym (c .before .is-untallied .ensures) ∙ not-false _ (c .if3 .left)
 
 kind-of-requires : tie.Need-kind-of-requires
 kind-of-requires c κs = search needs
@@ -34,13 +36,13 @@ span-of-requires c κs = search needs
 returns-2 : tie.Need-returns-2
 returns-2 c = rw (kind-zero (c .before .before), unequal (c .before .span-of .ensures) refl (c .if2 .taken))
 
-tally-of-requires : tie.Need-tally-of-requires
-tally-of-requires c κs = search needs
+is-untallied-requires : tie.Need-is-untallied-requires
+is-untallied-requires c κs = search needs
 
 returns-3 : tie.Need-returns-3
 returns-3 c =
     let spanned = c .before .before in
-    rw (kind-zero (spanned .before .before), span-zero spanned, unequal (c .before .tally-of .ensures) refl (c .if3 .taken))
+    rw (kind-zero (spanned .before .before), span-zero spanned, sym (c .before .is-untallied .ensures) ∙ not-true _ (c .if3 .taken))
 
 stamp-of-requires : tie.Need-stamp-of-requires
 stamp-of-requires c κs = search needs
@@ -49,7 +51,7 @@ returns-4 : tie.Need-returns-4
 returns-4 c =
     let tallied = c .before in
     let spanned = tallied .before .before in
-    rw (kind-zero (spanned .before .before), span-zero spanned, tally-zero tallied, c .stamp-of .ensures)
+    rw (kind-zero (spanned .before .before), span-zero spanned, untallied tallied, c .stamp-of .ensures)
 
 pub is-free-spec : {M : Type 1} → statement M
 is-free-spec =
@@ -59,7 +61,7 @@ is-free-spec =
     returns
     span-of-requires
     returns-2
-    tally-of-requires
+    is-untallied-requires
     returns-3
     stamp-of-requires
     returns-4)

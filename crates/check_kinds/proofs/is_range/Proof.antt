@@ -46,11 +46,26 @@ stamp-of-requires c κs = search needs
 
 returns-4 : tie.Need-returns-4
 returns-4 c =
-    let date-read = c .before .before in
+    let stamp-read = c .before in
+    let date-read = stamp-read .before .before in
     let kind-read = date-read .before .before in
     let is-range-delete = equal (kind-read .kind-of .ensures) refl (date-read .before .if2 .left) in
-    let from-one = upto refl (date-read .date-of .ensures) (c .before .if3 .left) in
-    rw (lo-upto-hi (kind-read .before), is-range-delete, from-one, date-read .date-of .ensures, c .stamp-of .ensures)
+    let from-one = upto refl (date-read .date-of .ensures) (stamp-read .before .if3 .left) in
+    rw (lo-upto-hi (kind-read .before), is-range-delete, from-one, above (date-read .date-of .ensures) (stamp-read .stamp-of .ensures) (c .if4 .taken))
+
+price-of-requires : tie.Need-price-of-requires
+price-of-requires c κs = search needs
+
+returns-5 : tie.Need-returns-5
+returns-5 c =
+    let in-time = c .before in
+    let stamp-read = in-time .before in
+    let date-read = stamp-read .before .before in
+    let kind-read = date-read .before .before in
+    let is-range-delete = equal (kind-read .kind-of .ensures) refl (date-read .before .if2 .left) in
+    let from-one = upto refl (date-read .date-of .ensures) (stamp-read .before .if3 .left) in
+    let to-stamp = upto (date-read .date-of .ensures) (stamp-read .stamp-of .ensures) (in-time .if4 .left) in
+    rw (lo-upto-hi (kind-read .before), is-range-delete, from-one, to-stamp, c .price-of .ensures)
 
 pub is-range-spec : {M : Type 1} → statement M
 is-range-spec =
@@ -64,4 +79,6 @@ is-range-spec =
     date-of-requires
     returns-3
     stamp-of-requires
-    returns-4)
+    returns-4
+    price-of-requires
+    returns-5)

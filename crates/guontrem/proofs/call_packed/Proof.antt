@@ -2,6 +2,7 @@
 use native.Mathlib.Omega.{arith}
 use borrow.Author.Needs.{needs}
 use Prim.Native.Nat.{ℕ}
+use Rattle.model.specs.declared.Tally.{Tally}
 use Rattle.model.specs.Calls.{Call}
 use Rattle.tables.specs.Words.{Fits32}
 use Rattle.call_op.specs.Ops.{op-of}
@@ -17,7 +18,7 @@ abbrev done : tie.After-slice-known4 → tie.After-call
 done c = c .before .before .before .before
 
 -- The call that was asked for.
-abbrev asked : tie.After-call → Call ℕ
+abbrev asked : tie.After-call → Call Tally
 asked c = record { clock = entry c .args .clock; op = op-of (entry c .args .op) }
 
 fits : (c : tie.After-call) → Fits32 (entry c .args .entries .now)

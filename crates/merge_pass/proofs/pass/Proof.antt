@@ -4,6 +4,7 @@ use mathlib.Core.Path.{_≡_, refl, sym, _∙_}
 use Prim.Native.Nat.{ℕ, _+_, _-_, _<_, _≤_}
 use native.Mathlib.Omega.{arith}
 use lib.ListN.{length}
+use Rattle.model.specs.declared.Tally.{Tally}
 use Rattle.model.specs.Steps.{Work, begin, pass-level, pass}
 use Rattle.merge_levels.specs.Laid.{Store, Laid, Worked}
 use Rattle.merge_levels.proofs.Store.{laid-length, laid-deepest, laid-allowed}
@@ -15,7 +16,7 @@ use Rattle.merge_pass.proofs.pass.Tie as tie
 abbrev Inv-loop : tie.InvT-loop
 Inv-loop e₀ l₀ clock deepest merges₀ i₀ e l merges i =
     (length e ≡ length e₀) × (length l ≡ length l₀) × (1 ≤ i)
-    × ((g : Store) (goal : Work ℕ ℕ) → g .time ≡ clock → g .state .settings .deepest ≡ deepest
+    × ((g : Store) (goal : Work ℕ Tally) → g .time ≡ clock → g .state .settings .deepest ≡ deepest
     → Reached (pass-level clock) goal g e₀ l₀ merges₀ i₀ → Reached (pass-level clock) goal g e l merges i)
 
 abbrev μ-loop : tie.MeasureT-loop
@@ -84,7 +85,7 @@ abbrev clock-of : tie.After-pass-level Inv-loop μ-loop → ℕ
 clock-of c = entry (turn c) .args .clock
 
 -- What a turn has done to every store on its way, at this clock.
-done : (c : tie.After-pass-level Inv-loop μ-loop) (g : Store) (goal : Work ℕ ℕ) → g .time ≡ clock-of c → turn c .loop .i < g .state .settings .deepest
+done : (c : tie.After-pass-level Inv-loop μ-loop) (g : Store) (goal : Work ℕ Tally) → g .time ≡ clock-of c → turn c .loop .i < g .state .settings .deepest
     → (w : Reached (pass-level (clock-of c)) goal g (turn c .loop .e) (turn c .loop .l) (turn c .loop .merges) (turn c .loop .i))
     → Worked (reached-store w) (pass-level (clock-of c) (turn c .loop .i) (begin (w .work .state)))
     (c .pass-level .last .0) (c .pass-level .last .1 .0) (c .pass-level .result)

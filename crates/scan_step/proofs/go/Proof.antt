@@ -49,27 +49,14 @@ returns-3 c =
     (sym (gone-delete (a .e .now) (a .m) (rw (k .before .key-of .ensures) at (t .before .if1 .left)) (sym (entry k .pre .1 .1) ∙ t .if2 .left)
     (λ q. c .if3 .taken (c .before .kind-of .ensures ∙ q))))
 
-tally-of-requires : tie.Need-tally-of-requires
-tally-of-requires c κs =
-    let asked = c .before in
-    let p = entry (asked .before .before .before .before) .pre in
-    slot-on (p .0 .points) (omega (arith, p .0 .last, p .1 .0)) .within
-
-stamp-of-requires : tie.Need-stamp-of-requires
-stamp-of-requires c κs =
-    let asked = c .before .before in
-    let p = entry (asked .before .before .before .before) .pre in
-    slot-on (p .0 .points) (omega (arith, p .0 .last, p .1 .0)) .within
-
 returns-4 : tie.Need-returns-4
 returns-4 c =
-    let u = c .before .before in
-    let t = u .before .before in
+    let t = c .before .before in
     let k = t .before .before .before in
     let a = entry k .args in
-    rw (k .pass .ensures, k .before .key-of .ensures, c .before .tally-of .ensures, c .stamp-of .ensures)
+    rw (k .pass .ensures, k .before .key-of .ensures)
     (sym (gone-found (a .e .now) (a .m) (rw (k .before .key-of .ensures) at (t .before .if1 .left)) (sym (entry k .pre .1 .1) ∙ t .if2 .left)
-    (sym (u .before .kind-of .ensures) ∙ u .if3 .left)))
+    (sym (c .before .kind-of .ensures) ∙ c .if3 .left)))
 
 pub go-spec : {M : Type 1} → statement M
 go-spec =
@@ -82,6 +69,4 @@ go-spec =
     returns-2
     kind-of-requires
     returns-3
-    tally-of-requires
-    stamp-of-requires
     returns-4)

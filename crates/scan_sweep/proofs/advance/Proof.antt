@@ -1,6 +1,6 @@
 -- `scan_sweep::advance`: one step past a record is enough, or the search from where it leads arrives where the sweep was to arrive.
 use Rattle.tables.specs.Words.{Fits32}
-use Rattle.scan_step.proofs.Steps.{told-sweeping, near-leads}
+use Rattle.scan_step.proofs.Steps.{standing-sweeping, near-leads}
 use Rattle.scan_sweep.proofs.Arriving.{advanced-at-once, advanced-later}
 use borrow.Author.Needs.{needs}
 use Rattle.scan_sweep.proofs.advance.Statement.{statement}
@@ -25,7 +25,7 @@ stand-requires c κs = search needs
 search-requires : tie.Need-search-requires
 search-requires c κs =
     let n = c .before .before .before in
-    rw (c .stand .ensures, n .near .ensures) (told-sweeping (near-leads (words n) (n .before .before .pre) .0))
+    rw (c .stand .ensures, n .near .ensures) (standing-sweeping (near-leads (words n) (n .before .before .pre) .0))
 
 stand-requires-2 : tie.Need-stand-requires-2
 stand-requires-2 c κs = search needs

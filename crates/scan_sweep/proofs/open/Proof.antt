@@ -105,8 +105,7 @@ opens : (e l : List ℕ) (lo hi levels : ℕ) (heads : Heads) (ranges : List ℕ
       going = 1;
       live = 0;
       key = 0;
-      value = 0;
-      stamp = 0;
+      slot = 0;
     } ≡ opened e l lo hi
 opens e l lo hi levels heads ranges n h r = rw (h, r, n)
 

@@ -2,7 +2,7 @@
 use mathlib.Core.Path.{_≡_, refl, sym, _∙_}
 use Rattle.tables.specs.Words.{Fits32}
 use Rattle.scan_step.specs.Sweeps.{Sweeping}
-use Rattle.scan_step.proofs.Steps.{told-sweeping, steps-left, fewer-steps}
+use Rattle.scan_step.proofs.Steps.{standing-sweeping, steps-left, fewer-steps}
 use Rattle.scan_sweep.specs.Sweeps.{arrived}
 use Rattle.scan_sweep.proofs.Crossing.{step-stepped}
 use Rattle.scan_sweep.proofs.Arriving.{turned, stopped}
@@ -20,7 +20,7 @@ abbrev words : (c : tie.At-loop Inv-loop μ-loop) → Fits32 (c .before .before 
 words c = λ i. c .before .shared-slice-known .given i .fits
 
 loop-holds : tie.Need-loop-holds Inv-loop μ-loop
-loop-holds c = (told-sweeping (c .before .pre), refl)
+loop-holds c = (standing-sweeping (c .before .pre), refl)
 
 step-requires : tie.Need-step-requires Inv-loop μ-loop
 step-requires c κs = c .before .before .loop .inv .0

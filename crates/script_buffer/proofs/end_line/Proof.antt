@@ -3,7 +3,7 @@ use mathlib.Core.Path.{sym}
 use borrow.Author.Needs.{needs}
 use native.Mathlib.Omega.{arith}
 use lib.Seq.{length-take-le}
-use Rattle.script_prints.proofs.Digits.{length-numbers}
+use Rattle.script_prints.proofs.Digits.{length-printed}
 use Rattle.script_buffer.proofs.Steps.{ends}
 use Rattle.script_buffer.proofs.end_line.Statement.{statement}
 use Rattle.script_buffer.proofs.end_line.Tie as tie
@@ -48,7 +48,7 @@ returns c =
     let r = carried .run-line in
     let s = entry (lent carried) in
     let a = s .args in
-    let few = length-numbers (r .result .first) (r .result .second) (r .result .third) in (
+    let few = length-printed (r .result .printed) in (
       ends (a .entries .now) (a .levels .now) (a .line .now) (a .output .now) (a .m) (r .last .1 .0) (r .last .1 .1 .0) (p .last .0) (r .result)
           (p .result) (s .pre .1) (r .ensures .0) (p .ensures),
       (record { fits = r .ensures .1; line-room = s .pre .0 .line-room; within = omega arith }, omega (arith, few, p .ensures .0)),

@@ -1,8 +1,9 @@
 -- `script_command::run_command`: each arm carries out the command that it is for, and a call before any making is answered by 9.
 use mathlib.Core.Path.{_≡_, sym, ap, _∙_}
 use borrow.Author.Needs.{needs}
+use Rattle.call_op.specs.Ops.{op-of}
 use Rattle.script_lines.specs.declared.Command.{Command}
-use Rattle.script_store.specs.Memory.{Memory, Stepped}
+use Rattle.script_store.specs.Memory.{Memory, Stepped, does}
 use Rattle.script_store.specs.Coded.{memory, stepped}
 use Rattle.script_command.specs.Script.{carried-out, command-step}
 use Rattle.script_command.proofs.Commands.{carried, early}
@@ -42,6 +43,9 @@ run-make-requires c κs = search needs
 
 enum-known-command-2 : tie.Need-enum-known-command-2
 enum-known-command-2 c = search needs
+
+put-requires : tie.Need-put-requires
+put-requires c κs = search needs
 
 run-call-requires : tie.Need-run-call-requires
 run-call-requires c κs = search needs
@@ -103,8 +107,11 @@ same-length-4 c = search needs
 returns-3 : tie.Need-returns-3
 returns-3 c =
     let done = c .before .before .before .before in
-    let arm = done .before .before .before .before in
-    on-time (arm .before .before) (arm .command2 .given .1) (done .run-call .ensures)
+    let made = done .before in
+    let arm = made .before .before .before .before in
+    let s = entry (arm .before .before .before) in
+    on-time (arm .before .before) (arm .command2 .given .1)
+    (done .run-call .ensures ∙ ap (λ op. does (record { clock = arm .command2 .given .0 .0; op = op-of op }) (M s)) (made .put .ensures))
 
 same-length-5 : tie.Need-same-length-5
 same-length-5 c = search needs
@@ -187,6 +194,7 @@ run-command-spec =
     enum-known-command
     run-make-requires
     enum-known-command-2
+    put-requires
     run-call-requires
     enum-known-command-3
     run-call-requires-2

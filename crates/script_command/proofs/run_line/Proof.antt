@@ -48,7 +48,7 @@ returns c =
     let s = entry at in
     let is = ap (stepped (s .args .entries .now) (s .args .levels .now)) (c .alone .ensures)
     ∙ unreadable _ (M s) (sym (at .read-line .ensures) ∙ told .enum-told .given .1) in
-    (is, fits-then s _ _ _ refl refl is)
+    (is, fits-then s _ _ (c .alone .result) refl refl is)
 
 run-command-requires : tie.Need-run-command-requires
 run-command-requires c κs = search needs

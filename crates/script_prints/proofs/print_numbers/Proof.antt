@@ -1,5 +1,4 @@
--- `script_prints::print_numbers`: three fields, each printed where the one before it ends, are the line.
-use mathlib.Core.List.{_++_}
+-- `script_prints::print_numbers`: the last three numbers are printed alike, and of four the first stands before them.
 use native.Mathlib.Omega.{arith}
 use borrow.Author.Needs.{needs}
 use Rattle.script_prints.specs.Texts.{field-text, numbers-text}
@@ -8,55 +7,59 @@ use Rattle.script_prints.proofs.Overwrites.{printed-append}
 use Rattle.script_prints.proofs.print_numbers.Statement.{statement}
 use Rattle.script_prints.proofs.print_numbers.Tie as tie
 
--- Where the code stands: at its entry, and once the first, the second and the third field is printed.
-abbrev entry : tie.After-print-field → tie.Start
-entry c = c .before .before .before
+-- Where the code stands: with four numbers known, once the first of them is printed, and once the others are.
+abbrev four : tie.After-print-field → tie.After-printed2
+four c = c .before .before .before
 
-abbrev first : tie.After-print-field2 → tie.After-print-field
+abbrev first : tie.After-print-three2 → tie.After-print-field
 first c = c .before .before .before .before
 
-abbrev second : tie.After-print-field3 → tie.After-print-field2
-second c = c .before .before .before .before
+enum-known-printed : tie.Need-enum-known-printed
+enum-known-printed c = search needs
 
-abbrev third : tie.After-slice-known4 → tie.After-print-field3
-third c = c .before .before
+print-three-requires : tie.Need-print-three-requires
+print-three-requires c κs = search needs
+
+enum-known-printed-2 : tie.Need-enum-known-printed-2
+enum-known-printed-2 c = search needs
 
 print-field-requires : tie.Need-print-field-requires
 print-field-requires c κs = search needs
 
-print-field-requires-2 : tie.Need-print-field-requires-2
-print-field-requires-2 c κs =
-    let a = entry (c .before .before .before) .args in
-    omega (arith, length-field (a .first) 32)
-
-print-field-requires-3 : tie.Need-print-field-requires-3
-print-field-requires-3 c κs =
-    let a = entry (first (c .before .before .before)) .args in
-    omega (arith, length-field (a .first) 32, length-field (a .second) 32)
+print-three-requires-2 : tie.Need-print-three-requires-2
+print-three-requires-2 c κs = omega (arith, length-field (four (c .before .before .before) .printed2 .given .0 .0) 32)
 
 same-length : tie.Need-same-length
 same-length c = search needs
 
 returns : tie.Need-returns
-unfolding numbers-text
 returns c =
-    let three = third c in
-    let two = second three in
-    let one = first two in
-    let a = entry one .args in
-    let few = length-field (a .first) 32 in
-    let few-more = length-field (a .second) 32 in
-    printed-append _ _ _ _ _ _ (field-text (a .first) 32) (field-text (a .second) 32 ++ field-text (a .third) 10) (omega arith)
-    (one .print-field .ensures)
-    (printed-append _ _ _ _ _ _ (field-text (a .second) 32) (field-text (a .third) 10) (omega arith)
-    (two .print-field2 .ensures) (three .print-field3 .ensures))
+    let done = c .before .before in
+    rw (done .before .before .before .printed .given .1) (done .print-three .ensures)
+
+same-length-2 : tie.Need-same-length-2
+same-length-2 c = search needs
+
+returns-2 : tie.Need-returns-2
+unfolding numbers-text
+returns-2 c =
+    let done = c .before .before in
+    let one = first done in
+    let n = four one .printed2 .given .0 .0 in
+    let few = length-field n 32 in
+    rw (four one .printed2 .given .1)
+    (printed-append _ _ _ _ _ _ (field-text n 32) _ (omega arith) (one .print-field .ensures) (done .print-three2 .ensures))
 
 pub print-numbers-spec : {M : Type 1} → statement M
 print-numbers-spec =
     tie.close
     (tie.spec
+    enum-known-printed
+    print-three-requires
+    enum-known-printed-2
     print-field-requires
-    print-field-requires-2
-    print-field-requires-3
+    print-three-requires-2
     same-length
-    returns)
+    returns
+    same-length-2
+    returns-2)

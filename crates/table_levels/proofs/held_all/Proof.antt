@@ -1,6 +1,7 @@
 -- `held_all`: the loop keeps that the sum so far, with what the levels from i on hold, is what all hold.
 use Prim.Native.Nat.{ℕ, _+_, _-_, _≤_}
 use native.Mathlib.Omega.{arith}
+use Rattle.model.specs.declared.Tally.{Tally}
 use Rattle.model.specs.Records.{State}
 use Rattle.table_levels.specs.Levels.{RowsAre}
 use Rattle.table_levels.proofs.Adds.{Adds, adds-nothing, adds-one, adds-all, rows-length, rows-deepest}
@@ -8,7 +9,7 @@ use Rattle.table_levels.proofs.held_all.Statement.{statement}
 use Rattle.table_levels.proofs.held_all.Tie as tie
 
 abbrev Inv-loop : tie.InvT-loop
-Inv-loop l levels held₀ i₀ held i = (i ≤ levels) × ((p : State ℕ ℕ) → RowsAre p l → Adds p l levels held i)
+Inv-loop l levels held₀ i₀ held i = (i ≤ levels) × ((p : State ℕ Tally) → RowsAre p l → Adds p l levels held i)
 
 abbrev μ-loop : tie.MeasureT-loop
 μ-loop l levels held₀ i₀ held i = levels - i
@@ -33,7 +34,7 @@ held-at-requires c κs =
     let x = entry .pre in omega (arith, turn .loop .inv .1 (x .value) (x .has) .room, c .loop-test .taken)
 
 -- One level more has been added up.
-added : (c : tie.After-held-at Inv-loop μ-loop) (p : State ℕ ℕ) → RowsAre p (c .before .before .before .before .before .args .l .now)
+added : (c : tie.After-held-at Inv-loop μ-loop) (p : State ℕ Tally) → RowsAre p (c .before .before .before .before .before .args .l .now)
     → Adds p (c .before .before .before .before .before .args .l .now) (c .before .before .before .deepest-of .result + 1)
     (c .before .before .loop .held + c .held-at .result) (c .before .before .loop .i + 1)
 added c p r =

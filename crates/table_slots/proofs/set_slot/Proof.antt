@@ -1,11 +1,22 @@
--- `set_slot`: its four stores, in their order, are those of `set-slot`.
-use mathlib.Core.Path.{refl}
+-- `set_slot`: its two stores, and those of `set_tally`, are in their order those of `set-slot`.
+use mathlib.Core.Path.{_≡_, sym, ap, _∙_}
+use mathlib.Core.List.{List}
+use Prim.Native.Nat.{ℕ, _+_, _*_}
 use native.Mathlib.Omega.{arith}
 use borrow.Author.Needs.{needs}
-use lib.ListN.{length-set}
-use Rattle.tables.specs.Slots.{set-slot}
+use lib.ListN.{length, set, length-set}
+use Rattle.model.specs.declared.Tally.{Tally}
+use Rattle.tables.specs.Slots.{slot-size, slot-at, set-slot, with-tally}
+use Rattle.tables.proofs.Slots.{length-set-slot, tally-written}
 use Rattle.table_slots.proofs.set_slot.Statement.{statement}
 use Rattle.table_slots.proofs.set_slot.Tie as tie
+
+-- The first two words written, then the others.
+all-written : (e : List ℕ) (s link span : ℕ) (a : Tally) (t : ℕ)
+    → let f = set (set e (slot-size * s) link) (slot-size * s + 1) span in
+    set-slot f s (with-tally a t (slot-at f s)) ≡ set-slot e s (record { link = link; span = span; tally = a; stamp = t })
+unfolding set-slot
+all-written e s link span a t = sym (tally-written (set (set e (slot-size * s) link) (slot-size * s + 1) span) s a t)
 
 mul-e : tie.Need-mul-e
 mul-e c = search needs
@@ -28,36 +39,14 @@ mul-e-4 c = search needs
 slice-write-e-2 : tie.Need-slice-write-e-2
 slice-write-e-2 c = simp length-set (omega arith)
 
-mul-e-5 : tie.Need-mul-e-5
-mul-e-5 c = search needs
-
-add-e-2 : tie.Need-add-e-2
-add-e-2 c = search needs
-
-mul-e-6 : tie.Need-mul-e-6
-mul-e-6 c = search needs
-
-slice-write-e-3 : tie.Need-slice-write-e-3
-slice-write-e-3 c = simp length-set (omega arith)
-
-mul-e-7 : tie.Need-mul-e-7
-mul-e-7 c = search needs
-
-add-e-3 : tie.Need-add-e-3
-add-e-3 c = search needs
-
-mul-e-8 : tie.Need-mul-e-8
-mul-e-8 c = search needs
-
-slice-write-e-4 : tie.Need-slice-write-e-4
-slice-write-e-4 c = simp length-set (omega arith)
+set-tally-requires : tie.Need-set-tally-requires
+set-tally-requires c κs = simp length-set (omega arith)
 
 same-length : tie.Need-same-length
-same-length c = search needs
+same-length c = ap length (c .before .before .set-tally .ensures) ∙ length-set-slot _ _ _ ∙ simp length-set
 
 returns : tie.Need-returns
-unfolding set-slot
-returns c = refl
+returns c = c .before .before .set-tally .ensures ∙ all-written _ _ _ _ _ _
 
 pub set-slot-spec : {M : Type 1} → statement M
 set-slot-spec =
@@ -70,13 +59,6 @@ set-slot-spec =
     add-e
     mul-e-4
     slice-write-e-2
-    mul-e-5
-    add-e-2
-    mul-e-6
-    slice-write-e-3
-    mul-e-7
-    add-e-3
-    mul-e-8
-    slice-write-e-4
+    set-tally-requires
     same-length
     returns)

@@ -22,8 +22,8 @@ returns c g h =
     let a = entry searched .args in
     kept h (a .docket) (searched .first-doomed .ensures _ (search-asked h)) (c .if1 .taken) (a .tally) (a .clock)
 
-set-value-requires : tie.Need-set-value-requires
-set-value-requires c κs =
+set-tally-requires : tie.Need-set-tally-requires
+set-tally-requires c κs =
     let found = c .before in
     let searched = found .before in
     let h = entry searched .pre .has in
@@ -38,10 +38,10 @@ returns-2 c g h =
     let found = written .before .before in
     let searched = found .before in
     let a = entry searched .args in
-    rw (written .set-value .ensures)
+    rw (written .set-tally .ensures)
     (changed h (a .docket) (searched .first-doomed .ensures _ (search-asked h)) (found .if1 .left) (a .tally) (a .clock))
 
 pub overwrite-spec : {M : Type 1} → statement M
 overwrite-spec =
     tie.close
-    (tie.spec first-doomed-requires same-length returns set-value-requires same-length-2 returns-2)
+    (tie.spec first-doomed-requires same-length returns set-tally-requires same-length-2 returns-2)

@@ -1,0 +1,26 @@
+-- `scan::scan_counts`: the walk of a scan, over the grower's rows.
+use contract.Running.{givenOf, tables, tablesOf}
+use denote.Triple.Spec.{tripleOf}
+use denote.Triple.Table.{entered, cited}
+use Rattle.scan.proofs.count_row_of as gives
+use Rattle.scan.proofs.count_row_of.Symbol as gives-def
+use Rattle.scan.proofs.count_row_of.Symbol.{name as #gives}
+use Rattle.scan.proofs.count_row_of.Met as gives-thm
+use Rattle.scan.proofs.Readers.{grower}
+use Rattle.scan.proofs.Known.{callees}
+use Rattle.scan.proofs.Walk.{scan-meets}
+use Rattle.scan.proofs.scan_counts.Key.{name as #scan·scan-counts}
+use Rattle.scan.proofs.scan_counts as f
+use Rattle.scan.proofs.scan_counts.Statement as stated
+use Rattle.scan.proofs.scan_counts.Code as code
+
+pub scan-counts-spec : {M : Type 1} → stated.statement M
+unfolding code.routine tablesOf
+scan-counts-spec 𝓤 H 𝓜 𝓖 𝓡 =
+    entered 𝓤 H (tripleOf 𝓤 H (𝓖 .A) f.signature (f.spec 𝓤 H (𝓖 .A) (𝓜 .mem) (𝓡 .run)))
+    (tables 𝓤 H 𝓜 𝓡 code.env .C) (tables 𝓤 H 𝓜 𝓡 code.env .Λ) #scan·scan-counts code.function (code.unfolded 𝓤 H 𝓜 𝓡)
+    (scan-meets grower #gives 𝓤 H (𝓖 .A) (givenOf 𝓤 H 𝓜 𝓖) (𝓜 .mem) (𝓡 .run) (tablesOf 𝓤 H 𝓜 (tables 𝓤 H 𝓜 𝓡 code.env))
+    (callees grower #gives 𝓤 H 𝓜 𝓖 𝓡 code.env code.calls-check-refusal·docket-refusal code.calls-scan·open code.calls-scan·goes-on code.calls-scan·next
+    code.calls-scan·close
+    (cited 𝓤 H (tripleOf 𝓤 H (𝓖 .A) gives.signature (gives.spec 𝓤 H (𝓖 .A) (𝓜 .mem) (𝓡 .run))) 𝓜 𝓡 code.env #gives
+    gives-def.routine code.calls-scan·count-row-of (gives-thm.met 𝓤 H 𝓜 𝓖 𝓡))))
