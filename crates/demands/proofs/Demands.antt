@@ -27,15 +27,16 @@ use Rattle.lookup.proofs.Numbers as lookups
 use Rattle.lookup.proofs.Counts as counts
 use Rattle.scan.specs.declared.Row.{Row}
 use Rattle.scan.specs.declared.CountRow.{CountRow}
-use Rattle.scan.specs.Scan.{unfilled, filled, written as row-of, scan-tables, scan-counts-tables}
+use Rattle.scan.specs.Scan.{unfilled, filled, written as row-of, without-price as row-without-price, without-prices as rows-without-prices}
+use Rattle.scan.specs.Scan.{scan-tables, scan-counts-tables}
 use Rattle.scan.proofs.Words as scans
+use Rattle.scan.proofs.Counts as scan-counts
 use Rattle.call_tables.specs.Calls.{Tables, call-tables, run-tables, tables-after, answers-tables, made-tables, refusal-number, merged-tables}
 use Rattle.demands.specs.Full.{SlotsLive}
 use Rattle.demands.specs.LastPut.{LastPut}
 use Rattle.demands.specs.Events.{Event, Reply, reply, run-events, replies, calls-of, answers-of}
 use Rattle.demands.specs.Numbers.{records-of, Settled}
 use Rattle.demands.specs.Hidden.{tally-word, price-word, SameBut, without, FreePriced}
-use Rattle.demands.specs.Grower.{row-without-price, rows-without-prices}
 use Rattle.call_tables.proofs.Runs as runs
 use Rattle.call_tables.proofs.Refusals as refusals
 use Rattle.demands.proofs.Full as full
@@ -141,7 +142,7 @@ module _ (e l : List ℕ) (lo hi : ℕ) (rows : List Row) where
 
   -- The grower's leaves what the hall's does with the prices left out.
   pub scan-counts-without-prices : scan-counts-tables e l lo hi (map row-without-price rows) ≡ rows-without-prices (scan-tables e l lo hi rows)
-  scan-counts-without-prices = grower.scan-without-prices e l lo hi rows
+  scan-counts-without-prices = scan-counts.counts-without-prices e l lo hi rows
 
 module _ (e l : List ℕ) (lo hi : ℕ) (rows : List CountRow) where
   pub scan-counts-refused-exactly : scan-counts-tables e l lo hi rows .answer .refusal ≡ docket-refusal e l lo hi

@@ -1,35 +1,25 @@
--- The grower's lookup and scan are the hall's with the prices left out, and hang on no price: tables that differ in the prices of puts alone are refused
--- alike, and their counts read the same.
+-- The grower's lookup and scan hang on no price: tables that differ in the prices of puts alone are refused alike, and their counts read the same.
 use mathlib.Core.Path.{_≡_, refl, ap, _∙_}
 use mathlib.Core.Logic.{_≢_}
-use mathlib.Core.Bool.{Bool, true, false, cond}
-use mathlib.Core.List.{List, [], _∷_, map}
-use Prim.Native.Nat.{ℕ, zero, suc, _+_, _*_, _%_}
+use mathlib.Core.List.{List}
+use Prim.Native.Nat.{ℕ, _+_, _*_, _%_}
 use native.Mathlib.Omega.{arith}
 use lib.Dec.{eqb}
-use lib.ListN.{length, length-map, drop}
 use lib.Seq.{getD-set-other}
 use borrow.Author.Tests.{eqb-true, ne-eqb}
 use Rattle.lists.specs.Lists.{every, count}
 use Rattle.lists.proofs.Bools.{by-cases, both-false}
-use Rattle.lists.proofs.Tests.{append-map, map-map}
 use Rattle.settings.specs.Limits.{allowed}
-use Rattle.model.specs.declared.Tally.{Tally}
-use Rattle.model.specs.Lookup as model
-use Rattle.model.specs.Lookup.{Scan}
 use Rattle.tables.specs.Slots.{slot-size, count-of}
 use Rattle.tables.specs.Sound.{chain, ascend, level-sound, levels-sound, record-slots, once-each, chains-sound, entries-fit, levels-fit, table-refusal}
-use Rattle.tables.specs.Placed.{read-state, read-counts}
+use Rattle.tables.specs.Placed.{read-counts}
 use Rattle.check_refusal.specs.Dockets.{docket-refusal}
 use Rattle.lookup.specs.Counts.{lookup-counts, count-numbers}
-use Rattle.lookup.proofs.Counts.{counts-found, counts-without-prices, counted-promised}
-use Rattle.scan.specs.declared.Row.{Row}
+use Rattle.lookup.proofs.Counts.{counts-without-prices, counted-promised}
 use Rattle.scan.specs.declared.CountRow.{CountRow}
-use Rattle.scan.specs.Scan.{filled, unfilled, written, count-written, scan-tables, scan-counts-tables}
-use Rattle.scan.proofs.Natural.{scan-as-map}
+use Rattle.scan.specs.Scan.{scan-counts-tables}
 use Rattle.call_tables.specs.Calls.{Tables}
 use Rattle.demands.specs.Hidden.{price-word, SameEntries, SameBut, one-free, FreePriced}
-use Rattle.demands.specs.Grower.{row-without-price, rows-without-prices}
 use Rattle.demands.proofs.SameTables.{prices-only, shown-same, refusal-same, state-same}
 
 -- A lookup of the grower's, by document 01's numbers of its answer.
@@ -41,41 +31,6 @@ module _ (e l : List ℕ) (k : ℕ) where
       → count-numbers (lookup-counts e l k) ≡ record { refusal = docket-refusal e l k k; found = 0; count = 0; stamp = 0 }
   unfolding lookup-counts
   lookup-refused-zeros some = rw (ne-eqb (docket-refusal e l k k) 0 some)
-
--- A scan of the grower's, into rows that are the hall's with the prices left out.
-drop-map : {X Y : Type 0} (f : X → Y) (n : ℕ) (xs : List X) → drop n (map f xs) ≡ map f (drop n xs)
-drop-map f zero [] = refl
-drop-map f zero (x ∷ xs) = refl
-drop-map f (suc n) [] = refl
-drop-map f (suc n) (x ∷ xs) = drop-map f n xs
-
-unpriced : (s : Scan Tally) (rows : List Row)
-    → filled (λ r. row-without-price (written r)) s (map row-without-price rows) ≡ rows-without-prices (filled written s rows)
-unpriced s rows = rw (
-  drop-map row-without-price (s .count) rows,
-  append-map row-without-price (map written (s .rows)) (drop (s .count) rows),
-  map-map written row-without-price (s .rows),
-)
-
-module _ (e l : List ℕ) (lo hi : ℕ) (rows : List Row) where
-  pub scan-without-prices : scan-counts-tables e l lo hi (map row-without-price rows) ≡ rows-without-prices (scan-tables e l lo hi rows)
-  unfolding scan-counts-tables scan-tables
-  scan-without-prices =
-      scan-as-map (λ (a : Tally). a .count) (model.lookup (read-state e l .levels)) (model.lookup (read-counts e l .levels)) (counts-found e l) count-written
-      (docket-refusal e l lo hi) lo hi (map row-without-price rows)
-      ∙ go (eqb (docket-refusal e l lo hi) 0)
-    where
-      found : ℕ → Scan Tally
-      found room = model.scan (model.lookup (read-state e l .levels)) lo hi room
-
-      go : (none : Bool)
-          → cond none (filled (λ r. row-without-price (written r)) (found (length (map row-without-price rows))) (map row-without-price rows))
-          (unfilled (docket-refusal e l lo hi) (map row-without-price rows))
-          ≡ rows-without-prices (cond none (filled written (found (length rows)) rows) (unfilled (docket-refusal e l lo hi) rows))
-      go true =
-          ap (λ n. filled (λ r. row-without-price (written r)) (found n) (map row-without-price rows)) (length-map rows row-without-price)
-          ∙ unpriced (found (length rows)) rows
-      go false = refl
 
 -- Entry tables that differ in the prices of puts alone.
 module _ (e f : List ℕ) (h : SameEntries price-word e f) (l : List ℕ) where

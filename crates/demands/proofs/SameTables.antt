@@ -11,6 +11,7 @@ use borrow.Author.Tests.{eqb-true, eqb-false, eq-eqb, ne-eqb}
 use Rattle.lists.specs.Lists.{every}
 use Rattle.lists.specs.All.{All}
 use Rattle.lists.proofs.Bools.{by-cases, both-false}
+use Rattle.model.specs.declared.Tally.{Tally}
 use Rattle.tables.specs.Slots.{slot-size, slot-at, next-of, kind-of, tally-of, count-of, price-of, first-free}
 use Rattle.tables.specs.Rows.{settings-of, level-row}
 use Rattle.tables.specs.Sound.{chain, chain-from, free-chain, point-chain, range-chain, is-free, is-point, is-range, ascend, is-stamped, owed-before, level-sound, levels-sound, record-slots, chains-sound, entries-fit, table-refusal}
@@ -25,6 +26,10 @@ every-same : {X : Type 0} (t u : X → Bool) → ((x : X) → t x ≡ u x) → (
 unfolding every
 every-same t u h [] = refl
 every-same t u h (x ∷ xs) = rw (h x, every-same t u h xs)
+
+tally-same : {count count′ price price′ : ℕ} → count ≡ count′ → price ≡ price′
+    → _≡_ {A = Tally} (record { count = count; price = price }) (record { count = count′; price = price′ })
+tally-same c p = rw (c, p)
 
 -- Only words of tallies may differ, of the five of a slot.
 pub record OnlyTallies (hides : ℕ → Bool) : Type 0 where
@@ -188,10 +193,8 @@ module _ (hides : ℕ → Bool) (only : OnlyTallies hides) (e f : List ℕ) (h :
     masked-word i place at false q = shown-same i place at q
 
     masked-same : (s : ℕ) → masked hides (tally-of e s) ≡ masked hides (tally-of f s)
-    masked-same s = rw (
-      masked-word (slot-size * s + 2) 2 (omega arith) (hides 2) refl,
-      masked-word (slot-size * s + 4) 4 (omega arith) (hides 4) refl,
-    )
+    masked-same s =
+        tally-same (masked-word (slot-size * s + 2) 2 (omega arith) (hides 2) refl) (masked-word (slot-size * s + 4) 4 (omega arith) (hides 4) refl)
 
     pub aside-same : table-refusal e l ≡ 0 → aside (masked hides) (read-state e l) ≡ aside (masked hides) (read-state f l)
     aside-same sound =

@@ -5,4 +5,3 @@ pub mod LastPut
 pub mod Events
 pub mod Numbers
 pub mod Hidden
-pub mod Grower
