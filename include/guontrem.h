@@ -9,7 +9,7 @@
    - The entry table, the level table, the word for a lookup's price and the rows of a scan do not overlap. The pointer to that word is not
      null either, and is aligned to 4 bytes.
    - No other call writes the tables meanwhile. Calls that only read (check, lookups, scans, the readers) may run at the same time.
-   A call allocates nothing, keeps nothing between calls and needs about 9 KiB of stack; of the C library it needs memset.
+   A call allocates nothing, keeps nothing between calls and needs about 9 KiB of stack; of the C library it needs memset and memcpy.
 
    The plain functions take both tables with their lengths. From "A store as one struct" on, the same calls take a struct that has them:
 

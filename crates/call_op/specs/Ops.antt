@@ -1,5 +1,4 @@
 -- The code's operation as the definitions'.
-use Prim.Native.Nat.{ℕ}
 use Rattle.model.specs.declared.Tally.{Tally}
 use Rattle.model.specs.Steps.{put, delete, delete-range}
 use Rattle.model.specs.Calls as model

@@ -1,5 +1,4 @@
 -- What an operation does before its pass.
-use Prim.Native.Nat.{ℕ}
 use Rattle.model.specs.declared.Tally.{Tally}
 use Rattle.model.specs.Calls.{Op, written, flush, tick}
 use Rattle.write_record.specs.Records.{record-of}

@@ -9,7 +9,6 @@ use write_act::act;
 use write_enter::enter;
 use write_record::Record;
 use write_record::is_crowded;
-ghost use Prim.Native.Nat.{ℕ};
 ghost use Rattle.model.specs.declared.Tally.{Tally};
 ghost use Rattle.lists.specs.All.{Exists};
 ghost use Rattle.model.specs.Steps.{Write};

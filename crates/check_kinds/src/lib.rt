@@ -41,13 +41,14 @@ pub fn is_point(e: &[u32], s: usize) -> bool
         return false;
     }
     let kind = kind_of(e, s);
+    let untallied = is_untallied(e, s);
     if kind == PUT {
         return true;
     }
     if kind != DELETE {
         return false;
     }
-    is_untallied(e, s)
+    untallied
 }
 
 // A range delete with a date from 1 to its stamp, and without a price.

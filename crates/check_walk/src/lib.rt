@@ -3,9 +3,9 @@ use check_forms::Class;
 use check_forms::row_fits;
 use check_marks::is_marked;
 use check_marks::mark;
+use table_slots::has_slot;
 use table_slots::next_of;
 use table_slots::order_key;
-use table_slots::slot_count;
 ghost use mathlib.Core.Path.{_≡_};
 ghost use Prim.Native.Nat.{_+_, _*_, _<_};
 ghost use lib.ListN.{length};
@@ -26,7 +26,7 @@ fn slot_fits(class: Class, e: &[u32], owed: u32, least: usize, s: usize, marks: 
     requires { ⌜ slots-of (now e) < 8 * length (now marks) ⌝ }
     ensures { λ r. ⌜ r ≡ slot-fits class (now (e .entry)) owed least s (now (marks .entry)) ⌝ }
 {
-    if slot_count(e) < s {
+    if !has_slot(e, s) {
         return false;
     }
     if is_marked(marks, s) != 0 {

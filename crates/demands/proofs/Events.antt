@@ -5,7 +5,7 @@ use Prim.Native.Nat.{ℕ, zero, suc, _<_}
 use native.Mathlib.Omega.{arith}
 use lib.ListN.{length, getD, take}
 use Rattle.call_tables.specs.Calls.{Tables, call-tables, run-tables, answers-tables}
-use Rattle.demands.specs.Events.{Event, call, lookup-of, scan-of, lookup-count-of, scan-counts-of, Reply, reply, leaves, run-events, replies, calls-of, answers-of}
+use Rattle.demands.specs.Events.{Event, call, lookup-of, scan-of, lookup-count-of, scan-counts-of, Reply, reply, run-events, replies, calls-of, answers-of}
 
 pub tables-without : (w : Tables) (es : List Event) → run-events w es ≡ run-tables w (calls-of es)
 unfolding run-events run-tables calls-of

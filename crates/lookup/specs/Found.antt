@@ -1,5 +1,4 @@
 -- What the levels hold for a docket.
-use Prim.Native.Nat.{ℕ}
 use Rattle.model.specs.declared.Tally.{Tally}
 use Rattle.model.specs.Lookup as model
 use Rattle.lookup.specs.declared.Found as answer

@@ -47,7 +47,6 @@ use Rattle.scan.proofs.open.Symbol.{name as #scan·open}
 use Rattle.scan.proofs.goes_on as goes-on
 use Rattle.scan.proofs.goes_on.Symbol.{name as #scan·goes-on}
 use Rattle.scan.proofs.next as next
-use Rattle.scan.proofs.next.Symbol.{name as #scan·next}
 use Rattle.scan.proofs.close as close
 use Rattle.scan.proofs.close.Symbol.{name as #scan·close}
 use Rattle.scan.proofs.Rows.{Rows, Filled, rowed, giving, gives, RowOf}
@@ -90,13 +89,13 @@ module _ {M : Type 1} (𝓤 : URA M) (H : Heap 𝓤) (A : Atoms 𝓤) (at-mem : 
   abbrev pub Close : Contract 𝓤
   Close = tripleOf 𝓤 H A close.signature (close.spec 𝓤 H A at-mem run)
 
-  -- what is known of the callees: of each its contract; f gives a row
-  pub record Callees (R : Rows) (f : Name) (𝓣 : Tables 𝓤 H) : Type 1 where
+  -- what is known of the callees: of each its contract
+  pub record Callees (R : Rows) (𝓣 : Tables 𝓤 H) : Type 1 where
     pub finds-refusal : Triple 𝓤 (𝓣 .C #dockets·docket-refusal) DocketRefusal
     pub open-first : Triple 𝓤 (𝓣 .C #scan·open) Open
     pub goes-on : Triple 𝓤 (𝓣 .C #scan·goes-on) GoesOn
-    pub row-of : Triple 𝓤 (𝓣 .C f) (RowOf R 𝓤 H A)
-    pub next : Triple 𝓤 (𝓣 .C #scan·next) Next
+    pub row-of : Triple 𝓤 (𝓣 .C (R .row-of)) (RowOf R 𝓤 H A)
+    pub next : Triple 𝓤 (𝓣 .C (R .next)) Next
     pub close : Triple 𝓤 (𝓣 .C #scan·close) Close
 
   -- ---- what each is passed: its values, and their machine values
@@ -250,9 +249,9 @@ follows 𝓤 H A e m m′ =
 
 -- ---- the calls. A callee that takes plain data finds what it asks at the head of the context, before the operands are read;
 -- one that reads the tables finds it in the place of the token
-module _ {M : Type 1} {𝓤 : URA M} {H : Heap 𝓤} {A : Atoms 𝓤} {at-mem : Memory → SProp 𝓤} {run : Routine → Fun 𝓤} {R : Rows} {f : Name} {𝓣 : Tables 𝓤 H}
+module _ {M : Type 1} {𝓤 : URA M} {H : Heap 𝓤} {A : Atoms 𝓤} {at-mem : Memory → SProp 𝓤} {run : Routine → Fun 𝓤} {R : Rows} {𝓣 : Tables 𝓤 H}
     {K : Type 0} {W : Given 𝓤 H A} {Γ : List (Item 𝓤)} {En : Env 𝓤 H} {xs : List Operand} {d : Place} {b : Body} {q : Post 𝓤 H} where
-  pub calls-goes-on : K → (known : Callees 𝓤 H A at-mem run R f 𝓣) (m : Sweep) (u : Val) (i n : ℕ) → Is S.the-row m (u ∷ []) → i < 2 ^ 64 → n < 2 ^ 64
+  pub calls-goes-on : K → (known : Callees 𝓤 H A at-mem run R 𝓣) (m : Sweep) (u : Val) (i n : ℕ) → Is S.the-row m (u ∷ []) → i < 2 ^ 64 → n < 2 ^ 64
       → Opds K W (goes-on-asks 𝓤 H A at-mem run m u i n ∷ Γ) En xs (u ∷ vint w64 i ∷ vint w64 n ∷ [])
       → ((v : Val) (t : Bool) → Is bool t (v ∷ []) → t ≡ has-row m i n → Goes K W 𝓣 En d b q v Γ) → Comes K W 𝓣 En xs d b q #scan·goes-on Γ
   calls-goes-on t known m u i n is low high os k =
@@ -262,7 +261,7 @@ module _ {M : Type 1} {𝓤 : URA M} {H : Heap 𝓤} {A : Atoms 𝓤} {at-mem : 
       (λ r. r ≡ has-row m i n) (λ r. tells 𝓤 H A (lasts goes-on.ended tt (m, (i, (n, tt)))) (r ≡ has-row m i n)) v
       (λ r is′ e. drop t $ k v r is′ e))
 
-  pub calls-close : K → (known : Callees 𝓤 H A at-mem run R f 𝓣) (m : Sweep) (u : Val) (i r : ℕ) (w : Val)
+  pub calls-close : K → (known : Callees 𝓤 H A at-mem run R 𝓣) (m : Sweep) (u : Val) (i r : ℕ) (w : Val)
       → Is S.the-row m (u ∷ []) → i < 2 ^ 64 → Is u32 r (w ∷ [])
       → Opds K W (close-asks 𝓤 H A at-mem run m u i r w ∷ Γ) En xs (u ∷ vint w64 i ∷ w ∷ [])
       → ((v : Val) (a : Scanned) → Is C.the-row a (v ∷ []) → a ≡ closed m i r → Goes K W 𝓣 En d b q v Γ) → Comes K W 𝓣 En xs d b q #scan·close Γ
@@ -273,12 +272,12 @@ module _ {M : Type 1} {𝓤 : URA M} {H : Heap 𝓤} {A : Atoms 𝓤} {at-mem : 
       (λ a. a ≡ closed m i r) (λ a. tells 𝓤 H A (lasts close.ended tt (m, (i, (r, tt)))) (a ≡ closed m i r)) v
       (λ a is′ e. drop t $ k v a is′ e))
 
-  pub calls-next : K → (known : Callees 𝓤 H A at-mem run R f 𝓣) {κ : Lft} {s : Share} (e : RefT (List ℕ)) (m : Sweep) (u : Val)
+  pub calls-next : K → (known : Callees 𝓤 H A at-mem run R 𝓣) {κ : Lft} {s : Share} (e : RefT (List ℕ)) (m : Sweep) (u : Val)
       → Is S.the-row m (u ∷ []) → Sweeping (e .now) m
       → Opds K W (next-asks 𝓤 H A at-mem run κ s e m u ∷ ‵ (Entries κ e) ∷ Γ) En xs (table-at e ∷ u ∷ [])
       → ((v : Val) (m′ : Sweep) → Is S.the-row m′ (v ∷ []) → Sweeping (e .now) m′ → rows-from (e .now) m′ ≡ rest (e .now) m
       → Goes K W 𝓣 En d b q v (‵ (flft κ s) ∷ ‵ (Entries κ e) ∷ Γ))
-      → Comes K W 𝓣 En xs d b q #scan·next (‵ (flft κ s) ∷ ‵ (Entries κ e) ∷ Γ)
+      → Comes K W 𝓣 En xs d b q (R .next) (‵ (flft κ s) ∷ ‵ (Entries κ e) ∷ Γ)
   calls-next t known {κ} {s} e m u is sw os k =
       move t (1 ∷ []) $ use1 W (‵ (Entries κ e) ⊛ ‵ (Entries κ e)) (entries-twice 𝓤 H A at-mem run W κ e) $ split t $ move t (2 ∷ 0 ∷ []) $
       use2 W (next-asks 𝓤 H A at-mem run κ s e m u) (next-asked 𝓤 H A at-mem run W κ s e m u is sw) $
@@ -287,12 +286,12 @@ module _ {M : Type 1} {𝓤 : URA M} {H : Heap 𝓤} {A : Atoms 𝓤} {at-mem : 
       (λ m′. exE 𝓤 _ (λ ws. via 𝓤 _ (snd∗ 𝓤 (sem 𝓤 H A (lasts next.ended (κ, tt) (e, (m, tt)) ws)) _) (follows 𝓤 H A e m m′))) v
       (λ m′ is′ h. split t $ move t (1 ∷ []) $ drop t $ k v m′ is′ (h .0) (h .1)))
 
-  pub calls-row-of : K → (known : Callees 𝓤 H A at-mem run R f 𝓣) {κ : Lft} {s : Share} (e : RefT (List ℕ)) (m : Sweep) (u : Val)
+  pub calls-row-of : K → (known : Callees 𝓤 H A at-mem run R 𝓣) {κ : Lft} {s : Share} (e : RefT (List ℕ)) (m : Sweep) (u : Val)
       → Is S.the-row m (u ∷ []) → InTable (e .now) (m .slot)
       → Opds K W (row-of-asks 𝓤 H A at-mem run R κ s e m u ∷ ‵ (Entries κ e) ∷ Γ) En xs (table-at e ∷ u ∷ [])
       → ((v : Val) (r : Filled R) → Is (rowed R) r (v ∷ []) → r ≡ R .written (row-found (e .now) m)
       → Goes K W 𝓣 En d b q v (‵ (flft κ s) ∷ ‵ (Entries κ e) ∷ Γ))
-      → Comes K W 𝓣 En xs d b q f (‵ (flft κ s) ∷ ‵ (Entries κ e) ∷ Γ)
+      → Comes K W 𝓣 En xs d b q (R .row-of) (‵ (flft κ s) ∷ ‵ (Entries κ e) ∷ Γ)
   calls-row-of t known {κ} {s} e m u is inside os k =
       move t (1 ∷ []) $ use1 W (‵ (Entries κ e) ⊛ ‵ (Entries κ e)) (entries-twice 𝓤 H A at-mem run W κ e) $ split t $ move t (2 ∷ 0 ∷ []) $
       use2 W (row-of-asks 𝓤 H A at-mem run R κ s e m u) (row-of-asked 𝓤 H A at-mem run W R κ s e m u is inside) $
@@ -303,7 +302,7 @@ module _ {M : Type 1} {𝓤 : URA M} {H : Heap 𝓤} {A : Atoms 𝓤} {at-mem : 
       (λ r is′ h. split t $ move t (1 ∷ []) $ drop t $ k v r is′ h))
 
   module _ {κ₁ κ₂ : Lft} {q₁ q₂ : Share} where
-    pub calls-docket-refusal : K → (known : Callees 𝓤 H A at-mem run R f 𝓣) (e l : RefT (List ℕ)) (lo hi : ℕ) → lo < 2 ^ 32 → hi < 2 ^ 32
+    pub calls-docket-refusal : K → (known : Callees 𝓤 H A at-mem run R 𝓣) (e l : RefT (List ℕ)) (lo hi : ℕ) → lo < 2 ^ 32 → hi < 2 ^ 32
         → Opds K W (docket-refusal-asks 𝓤 H A at-mem run κ₁ κ₂ q₁ q₂ e l lo hi ∷ Both κ₁ κ₂ e l ∷ Γ) En xs
         (table-at e ∷ table-at l ∷ vint w32 lo ∷ vint w32 hi ∷ [])
         → ((v : Val) (r : ℕ) → Is u32 r (v ∷ []) → r ≡ docket-refusal (e .now) (l .now) lo hi → Goes K W 𝓣 En d b q v (Lent κ₁ κ₂ q₁ q₂ e l Γ))
@@ -320,7 +319,7 @@ module _ {M : Type 1} {𝓤 : URA M} {H : Heap 𝓤} {A : Atoms 𝓤} {at-mem : 
         (λ r. tells 𝓤 H A (lasts refusal-fn.ended (κ₁, (κ₂, tt)) (e, (l, (lo, (hi, tt))))) (r ≡ docket-refusal (e .now) (l .now) lo hi)) v
         (λ r is c. k v r is c))
 
-    pub calls-open : K → (known : Callees 𝓤 H A at-mem run R f 𝓣) (e l : RefT (List ℕ)) (lo hi r : ℕ) (w : Val) → lo < 2 ^ 32 → hi < 2 ^ 32
+    pub calls-open : K → (known : Callees 𝓤 H A at-mem run R 𝓣) (e l : RefT (List ℕ)) (lo hi r : ℕ) (w : Val) → lo < 2 ^ 32 → hi < 2 ^ 32
         → Is u32 r (w ∷ []) → r ≡ docket-refusal (e .now) (l .now) lo hi
         → Opds K W (open-asks 𝓤 H A at-mem run κ₁ κ₂ q₁ q₂ e l lo hi r w ∷ Both κ₁ κ₂ e l ∷ Γ) En xs
         (table-at e ∷ table-at l ∷ vint w32 lo ∷ vint w32 hi ∷ w ∷ [])

@@ -11,6 +11,10 @@ use Rattle.scan.proofs.Row as H
 use Rattle.scan.proofs.Row.Laws as H′
 use Rattle.scan.proofs.CountRow as G
 use Rattle.scan.proofs.CountRow.Laws as G′
+use Rattle.scan.proofs.row_of.Symbol.{name as #scan·row-of}
+use Rattle.scan.proofs.next.Symbol.{name as #scan·next}
+use Rattle.scan.proofs.count_row_of.Symbol.{name as #scan·count-row-of}
+use Rattle.scan.proofs.seek.Symbol.{name as #scan·seek}
 use Rattle.scan.proofs.Rows.{Rows}
 use Rattle.scan.proofs.Counts.{counted, counts-as}
 
@@ -20,7 +24,27 @@ unfolding scan-tables
 tables-as e l lo hi rows = refl
 
 abbrev pub hall : Rows
-hall = record { type = H.the-type; laws = H′.the-laws; plains = H′.the-plain; narrow = tt; written = written; outcome = scan-tables; fills = tables-as }
+hall = record {
+  type = H.the-type;
+  laws = H′.the-laws;
+  plains = H′.the-plain;
+  narrow = tt;
+  written = written;
+  row-of = #scan·row-of;
+  next = #scan·next;
+  outcome = scan-tables;
+  fills = tables-as;
+}
 
 abbrev pub grower : Rows
-grower = record { type = G.the-type; laws = G′.the-laws; plains = G′.the-plain; narrow = tt; written = counted; outcome = scan-counts-tables; fills = counts-as }
+grower = record {
+  type = G.the-type;
+  laws = G′.the-laws;
+  plains = G′.the-plain;
+  narrow = tt;
+  written = counted;
+  row-of = #scan·count-row-of;
+  next = #scan·seek;
+  outcome = scan-counts-tables;
+  fills = counts-as;
+}

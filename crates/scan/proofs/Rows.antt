@@ -37,16 +37,18 @@ use Rattle.scan.proofs.Entry.{framed}
 use Rattle.check_refusal.proofs.docket_refusal.Symbol.{name as #dockets·docket-refusal}
 use Rattle.scan.proofs.open.Symbol.{name as #scan·open}
 use Rattle.scan.proofs.goes_on.Symbol.{name as #scan·goes-on}
-use Rattle.scan.proofs.next.Symbol.{name as #scan·next}
 use Rattle.scan.proofs.close.Symbol.{name as #scan·close}
 
--- A row's type with its laws, how a live docket's row is written, and the definition of a scan that fills such rows.
+-- A row's type with its laws, how a live docket's row is written, the functions that give a row and come to the next live docket, and the definition
+-- of a scan that fills such rows.
 pub record Rows : Type 2 where
   pub type : Declared
   pub laws : Laws type
   pub plains : Plains (fields type)
   pub narrow : T (ltb (mem (row type) .size) (2 ^ 64))
   pub written : model.Row Tally → type .D
+  pub row-of : Name
+  pub next : Name
   pub outcome : List ℕ → List ℕ → ℕ → ℕ → List (type .D) → Outcome (type .D)
   pub fills : (e l : List ℕ) (lo hi : ℕ) (ys : List (type .D))
       → scan-as written (docket-refusal e l lo hi) (model.lookup (read-state e l .levels)) lo hi ys ≡ outcome e l lo hi ys
@@ -108,36 +110,35 @@ module _ (R : Rows) where
       abbrev pub RowOf : Contract 𝓤
       RowOf = tripleOf 𝓤 H A (giving .signature) (closing 𝓤 H A giving gives)
 
-  -- ---- the code of a scan whose rows come from the function f
-  module _ (f : Name) where
-    abbrev local : ℕ → Place
-    local i = place i []
+  -- ---- the code of a scan
+  abbrev local : ℕ → Place
+  local i = place i []
 
-    abbrev read : ℕ → Opd
-    read i = copy (local i)
+  abbrev read : ℕ → Opd
+  read i = copy (local i)
 
-    abbrev after-row : Body
-    after-row =
-        seq (assign (local 10) (op2 (mul unsigned) (read 8) (int w64 bytes)))
-        (seq (assign (local 12) (op2 offset (copy (place 5 (field 0 ∷ []))) (read 10)))
-        (seq (assign (place 12 (deref row-ty ∷ [])) (rvOpd (read 11)))
-        (seq (call #scan·next (read 1 ∷ read 7 ∷ []) (local 7)) (assign (local 8) (op2 (add unsigned) (read 8) (int w64 1))))))
+  abbrev after-row : Body
+  after-row =
+      seq (assign (local 10) (op2 (mul unsigned) (read 8) (int w64 bytes)))
+      (seq (assign (local 12) (op2 offset (copy (place 5 (field 0 ∷ []))) (read 10)))
+      (seq (assign (place 12 (deref row-ty ∷ [])) (rvOpd (read 11)))
+      (seq (call (R .next) (read 1 ∷ read 7 ∷ []) (local 7)) (assign (local 8) (op2 (add unsigned) (read 8) (int w64 1))))))
 
-    -- a turn of the loop, from its test on and whole
-    abbrev pub tested : Body
-    tested = seq (cond (read 9) skip (exit 1)) (seq (call f (read 1 ∷ read 7 ∷ []) (local 11)) after-row)
+  -- a turn of the loop, from its test on and whole
+  abbrev pub tested : Body
+  tested = seq (cond (read 9) skip (exit 1)) (seq (call (R .row-of) (read 1 ∷ read 7 ∷ []) (local 11)) after-row)
 
-    abbrev pub turn : Body
-    turn = seq (assign (local 10) (rvOpd (copy (place 5 (field 1 ∷ []))))) (seq (call #scan·goes-on (read 7 ∷ read 8 ∷ read 10 ∷ []) (local 9)) tested)
+  abbrev pub turn : Body
+  turn = seq (assign (local 10) (rvOpd (copy (place 5 (field 1 ∷ []))))) (seq (call #scan·goes-on (read 7 ∷ read 8 ∷ read 10 ∷ []) (local 9)) tested)
 
-    abbrev pub last : Body
-    last = seq (call #scan·close (read 7 ∷ read 8 ∷ read 6 ∷ []) (local 0)) return
+  abbrev pub last : Body
+  last = seq (call #scan·close (read 7 ∷ read 8 ∷ read 6 ∷ []) (local 0)) return
 
-    abbrev pub body : Body
-    body =
-        seq (call #dockets·docket-refusal (read 1 ∷ read 2 ∷ read 3 ∷ read 4 ∷ []) (local 6))
-        (seq (call #scan·open (read 1 ∷ read 2 ∷ read 3 ∷ read 4 ∷ read 6 ∷ []) (local 7))
-        (seq (assign (local 8) (rvOpd (int w64 0))) (seq (block (loop turn)) last)))
+  abbrev pub body : Body
+  body =
+      seq (call #dockets·docket-refusal (read 1 ∷ read 2 ∷ read 3 ∷ read 4 ∷ []) (local 6))
+      (seq (call #scan·open (read 1 ∷ read 2 ∷ read 3 ∷ read 4 ∷ read 6 ∷ []) (local 7))
+      (seq (assign (local 8) (rvOpd (int w64 0))) (seq (block (loop turn)) last)))
 
-    abbrev pub function : Fn
-    function = framed C′.mir S′.mir row-ty row-name body
+  abbrev pub function : Fn
+  function = framed C′.mir S′.mir row-ty row-name body

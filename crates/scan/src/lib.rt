@@ -1,9 +1,14 @@
 // Scan: the live dockets from lo to hi, written into the caller's rows. The hall's rows show all, the grower's counts and stamps only.
 use check_refusal::docket_refusal;
+use scan_step::ARRIVED;
+use scan_step::SEARCHING;
 use scan_step::Sweep;
+use scan_step::near;
+use scan_step::stand;
 use scan_sweep::advance;
 use scan_sweep::begin;
 use scan_sweep::ended;
+use scan_sweep::search;
 use table_slots::count_of;
 use table_slots::stamp_of;
 use table_slots::tally_of;
@@ -69,7 +74,7 @@ pub fn scan_counts(
     let mut i = 0;
     while goes_on(m, i, rows.len()) {
         rows[i] = count_row_of(entries, m);
-        m = next(entries, m);
+        m = seek(entries, m);
         i += 1;
     }
     close(m, i, refusal)
@@ -93,6 +98,19 @@ fn next(entries: &[u32], m: Sweep) -> Sweep
     ensures { λ r. ⌜ rows-from (now (entries .entry)) r ≡ rest (now (entries .entry)) m ⌝ }
 {
     advance(entries, m)
+}
+
+// The same for the grower: called from two loops, an advance would be compiled into neither, so its steps stand here again.
+fn seek(entries: &[u32], m: Sweep) -> Sweep
+    requires { ⌜ Sweeping (now entries) m ⌝ }
+    ensures { λ r. ⌜ Sweeping (now (entries .entry)) r ⌝ }
+    ensures { λ r. ⌜ rows-from (now (entries .entry)) r ≡ rest (now (entries .entry)) m ⌝ }
+{
+    let r = near(entries, m);
+    if r.going == ARRIVED {
+        return r;
+    }
+    stand(search(entries, stand(r, SEARCHING)), ARRIVED)
 }
 
 // Whether there is a live docket and a row for it.

@@ -18,11 +18,13 @@ pub const SEARCHING: u32 = 1;
 // What each of some levels has next, point and ranges (two places a level); the latest date of the ranges over the dockets before the
 // fence, and how many levels it takes to have it (cover); the docket from which on, and the last up to which live ones are listed; how the
 // sweep stands (going), whether it has come to a live docket (1 or 0), to which, and in which slot its put is. No field is a bool: the gap
-// beside it would be copied byte by byte. Slots are halves of a word: a larger state would not stay in registers in the caller's loop.
+// beside it would be copied byte by byte. Slots of ranges are halves of a word: a larger state would not stay in registers in the caller's
+// loop. The put's slot stands before the numbers of four bytes: behind them the ranges would be copied once more for each record.
 pub struct Sweep {
     pub heads: Heads,
     pub ranges: [u32; 14],
     pub levels: usize,
+    pub slot: usize,
     pub cover: u32,
     pub date: u32,
     pub fence: u32,
@@ -31,7 +33,6 @@ pub struct Sweep {
     pub going: u32,
     pub live: u32,
     pub key: u32,
-    pub slot: usize,
 }
 
 // One record, unless it is doubtful. The fence lies no farther than past the last docket that is asked for.

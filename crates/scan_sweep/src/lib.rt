@@ -76,6 +76,19 @@ pub fn advance(e: &[u32], m: Sweep) -> Sweep
     stand(search(e, stand(r, SEARCHING)), ARRIVED)
 }
 
+// Goes on, record by record, to the next live docket.
+pub fn search(e: &[u32], m: Sweep) -> Sweep
+    requires { ⌜ Sweeping (now e) m ⌝ }
+    ensures { λ r. ⌜ r ≡ searched (now (e .entry)) m ⌝ }
+{
+    let mut r = m;
+    r.going = SEARCHING;
+    while r.going != ARRIVED {
+        r = step(e, r);
+    }
+    r
+}
+
 // Sets out from the first point of each level that is not before lo.
 fn open(e: &[u32], l: &[u32], lo: u32, hi: u32) -> Sweep
     requires { ⌜ Readable (now e) (now l) ⌝ }
@@ -108,19 +121,6 @@ fn open(e: &[u32], l: &[u32], lo: u32, hi: u32) -> Sweep
         key: 0,
         slot: 0,
     }
-}
-
-// Goes on, record by record, to the next live docket.
-fn search(e: &[u32], m: Sweep) -> Sweep
-    requires { ⌜ Sweeping (now e) m ⌝ }
-    ensures { λ r. ⌜ r ≡ searched (now (e .entry)) m ⌝ }
-{
-    let mut r = m;
-    r.going = SEARCHING;
-    while r.going != ARRIVED {
-        r = step(e, r);
-    }
-    r
 }
 
 // One record, or the fence before it.

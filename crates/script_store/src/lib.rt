@@ -8,7 +8,6 @@ use script_prints::Printed;
 use table_levels::level_length;
 use table_slots::entry_length;
 ghost use mathlib.Core.Path.{_≡_};
-ghost use Prim.Native.Nat.{_≤_};
 ghost use Rattle.call_op.specs.Ops.{op-of};
 ghost use Rattle.script_store.specs.Memory.{level-room, makes, does, finds};
 ghost use Rattle.script_store.specs.Coded.{Fits, memory, stepped, answering, counting, finding};

@@ -2,6 +2,7 @@
 use model::Tally;
 ghost use mathlib.Core.Path.{_≡_};
 ghost use Prim.Native.Nat.{_<_, _≤_};
+ghost use lib.Dec.{leb};
 ghost use Rattle.tables.specs.Slots.{entry-length, slots-of, InTable, slot-at, set-slot, link-to, span-from, next-of, kind-of, span-of, lo-of, hi-of, tally-of, count-of, price-of, date-of, stamp-of, free-slot, top-slot, first-free, clock-of, with-link, with-clock, with-tally, with-date};
 ghost use Rattle.tables.specs.Sound.{is-untallied, order-key, top-blank, entries-fit};
 
@@ -91,15 +92,17 @@ pub fn date_of(e: &[u32], slot: usize) -> u32
     count_of(e, slot)
 }
 
-// Neither count nor price.
+// Neither count nor price; both are read first, so that no branch hangs on a count.
 pub fn is_untallied(e: &[u32], slot: usize) -> bool
     requires { ⌜ InTable (now e) slot ⌝ }
     ensures { λ r. ⌜ r ≡ is-untallied (now (e .entry)) slot ⌝ }
 {
-    if count_of(e, slot) != 0 {
+    let count = count_of(e, slot);
+    let price = price_of(e, slot);
+    if count != 0 {
         return false;
     }
-    price_of(e, slot) == 0
+    price == 0
 }
 
 pub fn stamp_of(e: &[u32], slot: usize) -> u32
@@ -227,6 +230,14 @@ pub fn slot_count(entries: &[u32]) -> usize
         return 0;
     }
     slots - 1
+}
+
+// Whether the table has the slot: a link may lead anywhere. One test less than with slot_count, or the check's walk would not be compiled into its callers.
+pub fn has_slot(entries: &[u32], slot: usize) -> bool
+    requires { ⌜ InTable (now entries) 0 ⌝ }
+    ensures { λ r. ⌜ r ≡ leb slot (slots-of (now (entries .entry))) ⌝ }
+{
+    slot < entries.len() / WORDS
 }
 
 // The words of an entry table.

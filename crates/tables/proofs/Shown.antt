@@ -1,5 +1,5 @@
 -- A reader who is shown less of each put reads the same tables with less in each put.
-use mathlib.Core.Path.{_≡_, refl, sym}
+use mathlib.Core.Path.{_≡_, refl}
 use mathlib.Core.Bool.{Bool, true, false, cond}
 use mathlib.Core.List.{List, [], _∷_, map}
 use Prim.Native.Nat.{ℕ, zero, suc}
@@ -10,7 +10,7 @@ use Rattle.model.specs.Renaming.{map-entry, map-point, map-range, map-level, ma
 use Rattle.tables.specs.Rows.{settings-of}
 use Rattle.tables.specs.Slots.{kind-of}
 use Rattle.tables.specs.Sound.{free-chain, point-chain, range-chain}
-use Rattle.tables.specs.Placed.{read-range, point-as, level-as, levels-as, state-as}
+use Rattle.tables.specs.Placed.{read-range, point-as, levels-as, state-as}
 
 module _ {A B : Type 0} (shown : List ℕ → ℕ → A) (f : A → B) (e : List ℕ) where
   abbrev less : List ℕ → ℕ → B

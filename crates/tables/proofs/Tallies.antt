@@ -1,6 +1,6 @@
 -- What a state writes where each tally is seen through a mask: the same level table, and its own cells with those of puts seen so.
 use mathlib.Core.Path.{_≡_, refl, ap}
-use mathlib.Core.Bool.{Bool, true, false, cond}
+use mathlib.Core.Bool.{cond}
 use mathlib.Core.List.{List, [], _∷_, map}
 use Prim.Native.Nat.{ℕ}
 use lib.Dec.{eqb}
@@ -25,12 +25,6 @@ module _ (mask : Tally → Tally) where
 
   abbrev pub level-aside : Level ℕ Tally → Level ℕ Tally
   level-aside l = map-level (λ s. s) mask l
-
-  -- An entry hangs on its kind and, if it is a put, on what the mask leaves of its tally.
-  pub entry-aside : (b : Bool) (x y : Tally) → (b ≡ true → mask x ≡ mask y)
-      → map-entry mask (cond b (value x) tombstone) ≡ map-entry mask (cond b (value y) tombstone)
-  entry-aside true x y h = ap value (h refl)
-  entry-aside false x y h = refl
 
   -- The cell, behind the mask if it is a put's; a range's date stays.
   abbrev pub blank : Cell → Cell

@@ -13,7 +13,7 @@ use write_record::Record;
 use write_record::displaced_points;
 ghost use mathlib.Core.Path.{_≡_};
 ghost use mathlib.Core.Bool.{false};
-ghost use Prim.Native.Nat.{ℕ, _≤_};
+ghost use Prim.Native.Nat.{_≤_};
 ghost use Rattle.model.specs.declared.Tally.{Tally};
 ghost use Rattle.lists.specs.All.{Exists};
 ghost use Rattle.model.specs.Steps.{Write};

@@ -20,7 +20,7 @@ use write_record::displaced_points;
 ghost use mathlib.Core.Path.{_≡_};
 ghost use mathlib.Core.Logic.{_≢_};
 ghost use mathlib.Core.Bool.{cond, false};
-ghost use Prim.Native.Nat.{ℕ, _≤_};
+ghost use Prim.Native.Nat.{_≤_};
 ghost use lib.Dec.{eqb};
 ghost use Rattle.model.specs.declared.Tally.{Tally};
 ghost use Rattle.lists.specs.All.{Exists};

@@ -6,7 +6,6 @@ use table_levels::level_at;
 use table_slots::RANGE;
 use table_slots::first_free;
 ghost use mathlib.Core.Path.{_≡_};
-ghost use Prim.Native.Nat.{ℕ};
 ghost use Rattle.model.specs.declared.Tally.{Tally};
 ghost use Rattle.lists.specs.All.{Exists};
 ghost use Rattle.model.specs.Steps.{Write, crowded};

@@ -2,7 +2,6 @@
 use mathlib.Core.Path.{_≡_, refl, sym, _∙_}
 use mathlib.Core.Logic.{_≢_}
 use borrow.Author.Needs.{needs}
-use Prim.Native.Nat.{ℕ}
 use Rattle.model.specs.declared.Tally.{Tally}
 use Rattle.model.specs.Steps.{Write, merge-all}
 use Rattle.tables.specs.Slots.{first-free}

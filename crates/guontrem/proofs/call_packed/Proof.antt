@@ -1,7 +1,6 @@
 -- `guontrem::call_packed`: the refusal and the merges of a call's answer are small enough to stand in one number with what was purged.
 use native.Mathlib.Omega.{arith}
 use borrow.Author.Needs.{needs}
-use Prim.Native.Nat.{ℕ}
 use Rattle.model.specs.declared.Tally.{Tally}
 use Rattle.model.specs.Calls.{Call}
 use Rattle.tables.specs.Words.{Fits32}

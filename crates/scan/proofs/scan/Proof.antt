@@ -4,8 +4,10 @@ use denote.Triple.Spec.{tripleOf}
 use denote.Triple.Table.{entered, cited}
 use Rattle.scan.proofs.row_of as gives
 use Rattle.scan.proofs.row_of.Symbol as gives-def
-use Rattle.scan.proofs.row_of.Symbol.{name as #gives}
 use Rattle.scan.proofs.row_of.Met as gives-thm
+use Rattle.scan.proofs.next as next
+use Rattle.scan.proofs.next.Symbol as next-def
+use Rattle.scan.proofs.next.Met as next-thm
 use Rattle.scan.proofs.Readers.{hall}
 use Rattle.scan.proofs.Known.{callees}
 use Rattle.scan.proofs.Walk.{scan-meets}
@@ -19,8 +21,9 @@ unfolding code.routine tablesOf
 scan-spec 𝓤 H 𝓜 𝓖 𝓡 =
     entered 𝓤 H (tripleOf 𝓤 H (𝓖 .A) f.signature (f.spec 𝓤 H (𝓖 .A) (𝓜 .mem) (𝓡 .run)))
     (tables 𝓤 H 𝓜 𝓡 code.env .C) (tables 𝓤 H 𝓜 𝓡 code.env .Λ) #scan·scan code.function (code.unfolded 𝓤 H 𝓜 𝓡)
-    (scan-meets hall #gives 𝓤 H (𝓖 .A) (givenOf 𝓤 H 𝓜 𝓖) (𝓜 .mem) (𝓡 .run) (tablesOf 𝓤 H 𝓜 (tables 𝓤 H 𝓜 𝓡 code.env))
-    (callees hall #gives 𝓤 H 𝓜 𝓖 𝓡 code.env code.calls-check-refusal·docket-refusal code.calls-scan·open code.calls-scan·goes-on code.calls-scan·next
-    code.calls-scan·close
-    (cited 𝓤 H (tripleOf 𝓤 H (𝓖 .A) gives.signature (gives.spec 𝓤 H (𝓖 .A) (𝓜 .mem) (𝓡 .run))) 𝓜 𝓡 code.env #gives
-    gives-def.routine code.calls-scan·row-of (gives-thm.met 𝓤 H 𝓜 𝓖 𝓡))))
+    (scan-meets hall 𝓤 H (𝓖 .A) (givenOf 𝓤 H 𝓜 𝓖) (𝓜 .mem) (𝓡 .run) (tablesOf 𝓤 H 𝓜 (tables 𝓤 H 𝓜 𝓡 code.env))
+    (callees hall 𝓤 H 𝓜 𝓖 𝓡 code.env code.calls-check-refusal·docket-refusal code.calls-scan·open code.calls-scan·goes-on code.calls-scan·close
+    (cited 𝓤 H (tripleOf 𝓤 H (𝓖 .A) gives.signature (gives.spec 𝓤 H (𝓖 .A) (𝓜 .mem) (𝓡 .run))) 𝓜 𝓡 code.env (hall .row-of)
+    gives-def.routine code.calls-scan·row-of (gives-thm.met 𝓤 H 𝓜 𝓖 𝓡))
+    (cited 𝓤 H (tripleOf 𝓤 H (𝓖 .A) next.signature (next.spec 𝓤 H (𝓖 .A) (𝓜 .mem) (𝓡 .run))) 𝓜 𝓡 code.env (hall .next)
+    next-def.routine code.calls-scan·next (next-thm.met 𝓤 H 𝓜 𝓖 𝓡))))

@@ -8,14 +8,14 @@ use Rattle.table_slots.proofs.is_untallied.Tie as tie
 count-of-requires : tie.Need-count-of-requires
 count-of-requires c κs = search needs
 
-returns : tie.Need-returns
-returns c = rw (unequal (c .before .count-of .ensures) refl (c .if1 .taken))
-
 price-of-requires : tie.Need-price-of-requires
 price-of-requires c κs = search needs
 
+returns : tie.Need-returns
+returns c = rw (unequal (c .before .before .count-of .ensures) refl (c .if1 .taken))
+
 returns-2 : tie.Need-returns-2
-returns-2 c = rw (equal (c .before .before .count-of .ensures) refl (c .before .if1 .left), c .price-of .ensures)
+returns-2 c = rw (equal (c .before .before .count-of .ensures) refl (c .if1 .left), c .before .price-of .ensures)
 
 pub is-untallied-spec : {M : Type 1} → statement M
-is-untallied-spec = tie.close (tie.spec count-of-requires returns price-of-requires returns-2)
+is-untallied-spec = tie.close (tie.spec count-of-requires price-of-requires returns returns-2)
