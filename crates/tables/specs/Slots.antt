@@ -19,8 +19,17 @@ slots-of e = length e / slot-size - 1
 abbrev pub InTable : List ℕ → ℕ → Type 0
 InTable e s = slot-size * (s + 1) ≤ length e
 
--- Word 0 links a slot to the next and has its kind, word 1 spans its dockets. "A pallet's tally becomes a 32-bit count and a 32-bit price": word 2 is the count,
--- or "of kind 3" the date; "word 3: the stamp"; "the price is word 4".
+-- "A pallet's tally becomes a 32-bit count and a 32-bit price": word 2 is the count, "the price is word 4".
+abbrev pub count-of : List ℕ → ℕ → ℕ
+count-of e s = getD e (slot-size * s + 2) 0
+
+abbrev pub price-of : List ℕ → ℕ → ℕ
+price-of e s = getD e (slot-size * s + 4) 0
+
+abbrev pub tally-of : List ℕ → ℕ → Tally
+tally-of e s = record { count = count-of e s; price = price-of e s }
+
+-- Word 0 links a slot to the next and has its kind, word 1 spans its dockets; words 2 and 4 are the tally, or "of kind 3" word 2 is the date; "word 3: the stamp".
 pub record Slot : Type 0 where
   pub link : ℕ
   pub span : ℕ
@@ -31,7 +40,7 @@ abbrev pub slot-at : List ℕ → ℕ → Slot
 slot-at e s = record {
   link = getD e (slot-size * s) 0;
   span = getD e (slot-size * s + 1) 0;
-  tally = record { count = getD e (slot-size * s + 2) 0; price = getD e (slot-size * s + 4) 0 };
+  tally = tally-of e s;
   stamp = getD e (slot-size * s + 3) 0;
 }
 
@@ -68,15 +77,6 @@ lo-of e s = span-of e s % 65536
 
 abbrev pub hi-of : List ℕ → ℕ → ℕ
 hi-of e s = span-of e s / 65536
-
-abbrev pub tally-of : List ℕ → ℕ → Tally
-tally-of e s = slot-at e s .tally
-
-abbrev pub count-of : List ℕ → ℕ → ℕ
-count-of e s = tally-of e s .count
-
-abbrev pub price-of : List ℕ → ℕ → ℕ
-price-of e s = tally-of e s .price
 
 -- "Word 2 of kind 3 now holds s", the date of a range delete.
 abbrev pub date-of : List ℕ → ℕ → ℕ
