@@ -26,7 +26,8 @@ static bool record_fits(enum class class, const uint32_t *row, uint32_t clock, u
     return (kind == 3 || word == 0) && price == 0 && owed != 0 && owed <= stamp;
 }
 
-static struct walked walk(enum class class, const uint32_t *entries, size_t slots, uint32_t head, uint32_t owed, uint8_t *marks) {
+/* A copy is made for each class. */
+static inline __attribute__((always_inline)) struct walked walk(enum class class, const uint32_t *entries, size_t slots, uint32_t head, uint32_t owed, uint8_t *marks) {
     size_t count = 0;
     uint64_t least = 0;
     uint32_t clock = entries[1];

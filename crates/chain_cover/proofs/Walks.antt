@@ -1,25 +1,25 @@
 -- What each turn of the walk for a docket, and each way out of it, says of the whole chain.
-use mathlib.Core.Path.{_≡_, refl}
-use mathlib.Core.Bool.{Bool, true, false}
+use mathlib.Core.Path.{_≡_, refl, sym, _∙_}
+use mathlib.Core.Bool.{Bool, true, false, _&&_, _||_}
 use mathlib.Core.List.{List, [], _∷_, map}
 use Prim.Native.Nat.{ℕ, _<_, _≤_}
 use native.Mathlib.Omega.{arith}
 use native.Mathlib.Decide.{decLt}
-use borrow.Author.Tests.{eq-eqb, ne-eqb, le-leb, leb-true}
-use lib.Dec.{eqb, leb}
+use borrow.Author.Tests.{eq-eqb, ne-eqb, eqb-true, le-leb, leb-true, ltb-true}
+use lib.Dec.{eqb, leb, ltb}
 use Rattle.lists.specs.All.{All}
 use Rattle.lists.specs.Lists.{any}
-use Rattle.lists.proofs.Bools.{by-cases, both-false, bool-ext}
+use Rattle.lists.proofs.Bools.{by-cases, both-false, bool-ext, and-left, and-right, and-intro, or-second}
 use Rattle.model.specs.Coverage.{over, covers}
 use Rattle.model.specs.Merge.{covered, names}
-use Rattle.model.proofs.Coverage.{over-before, over-past, covers-true, covers-parts}
+use Rattle.model.proofs.Coverage.{over-inside, over-bounds, over-before, over-past, covers-true, covers-parts}
 use Rattle.tables.specs.Slots.{next-of, lo-of, hi-of, date-of}
 use Rattle.tables.specs.Words.{Fits32}
 use Rattle.tables.specs.Sound.{chain-from}
 use Rattle.tables.specs.Placed.{read-point, read-range}
 use Rattle.chain_cover.proofs.Chains.{On, chain-end, past}
 
--- A range that is not over the docket covers nothing of it; of one that is, the date decides.
+-- A range that is not over the docket covers nothing of it; three tests tell whether a range covers.
 module _ (lo hi date k t : ℕ) where
   covers-off : over lo hi k ≡ false → covers lo hi date k t ≡ false
   covers-off off = by-cases (covers lo hi date k t) (λ is. both-false (covers-parts lo hi date k t is .0) off) (λ not. not)
@@ -30,10 +30,19 @@ module _ (lo hi date k t : ℕ) where
   pub covers-past : hi < k → covers lo hi date k t ≡ false
   covers-past lt = covers-off (over-past lo hi k lt)
 
-  pub covers-inside : over lo hi k ≡ true → leb t date ≡ covers lo hi date k t
-  covers-inside on =
-      bool-ext (leb t date) (covers lo hi date k t) (λ is. covers-true lo hi date k t on (leb-true t date is))
-      (λ is. le-leb t date (covers-parts lo hi date k t is .1))
+  pub covers-tests : leb lo k && leb k hi && leb t date ≡ covers lo hi date k t
+  covers-tests =
+      let at : Bool = leb lo k && leb k hi in
+      bool-ext (at && leb t date) (covers lo hi date k t)
+      (λ is.
+      let on = and-left at (leb t date) is in
+      covers-true lo hi date k t
+      (over-inside lo hi k (leb-true lo k (and-left (leb lo k) (leb k hi) on)) (leb-true k hi (and-right (leb lo k) (leb k hi) on)))
+      (leb-true t date (and-right at (leb t date) is)))
+      (λ is.
+      let parts = covers-parts lo hi date k t is in
+      let on = over-bounds lo hi k (parts .0) in
+      and-intro at (leb t date) (and-intro (leb lo k) (leb k hi) (le-leb lo k (on .0)) (le-leb k hi (on .1))) (le-leb t date (parts .1)))
 
 -- The same of words that were read.
 pub covers-read : (lo hi date lo′ hi′ date′ k t : ℕ) (says : Bool) → lo ≡ lo′ → hi ≡ hi′ → date ≡ date′ → says ≡ covers lo hi date k t → covers lo′ hi′ date′ k t ≡ says
@@ -105,3 +114,13 @@ module _ (e : List ℕ) (h k t : ℕ) where
 
     pub ranges-next : covers (lo-of e h) (hi-of e h) (date-of e h) k t ≡ false → ranges-say e h k t ≡ ranges-say e (next-of e h) k t
     ranges-next q = rw (on .whole) (slots-next e h (chain-from e (next-of e h)) k t q)
+
+-- A walk that stops at a range, for any of three reasons, has its answer there.
+module _ (e : List ℕ) (h k t : ℕ) (on : On e h) (words : Fits32 e) where
+  pub ranges-stop : (says : Bool) (lo next : ℕ) → covers (lo-of e h) (hi-of e h) (date-of e h) k t ≡ says → lo ≡ lo-of e h → next ≡ next-of e h →
+      says || ltb k lo || eqb next 0 ≡ true → says ≡ ranges-say e h k t
+  ranges-stop true lo next is p q stop = sym (ranges-here e h k t on is)
+  ranges-stop false lo next is p q stop =
+      sym
+      (by-cases (ltb k lo) (λ lt. ranges-past e h k t on words (omega (arith, ltb-true k lo lt)))
+      (λ ge. ranges-next e h k t on is ∙ ranges-end e (next-of e h) k t (sym q ∙ eqb-true next 0 (or-second (ltb k lo) (eqb next 0) stop ge))))

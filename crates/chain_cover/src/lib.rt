@@ -36,10 +36,7 @@ pub struct Latest {
 pub fn covers(lo: u32, hi: u32, date: u32, docket: u32, stamp: u32) -> bool
     ensures { λ r. ⌜ r ≡ covers lo hi date docket stamp ⌝ }
 {
-    if lo <= docket {
-        return docket <= hi && stamp <= date;
-    }
-    false
+    (lo <= docket) & (docket <= hi) & (stamp <= date)
 }
 
 // The front of a whole chain.
@@ -187,21 +184,20 @@ fn pass_behind(e: &[u32], f: Front, docket: u32) -> Front
     }
 }
 
-// Walks the ranges, which ascend by lo, no farther than the docket.
+// Walks the ranges, which ascend by lo, no farther than the docket. All of a range is read before one test of it: read apart, its words would be addressed more slowly.
 fn is_covered(e: &[u32], head: usize, docket: u32, stamp: u32) -> bool
     requires { ⌜ Ordered (now e) head ⌝ }
     ensures { λ r. ⌜ r ≡ covered (map (read-range (now (e .entry))) (chain-from (now (e .entry)) head)) docket stamp ⌝ }
 {
     let mut at = head;
     while at != 0 {
+        let next = next_of(e, at);
         let lo = lo_of(e, at);
-        if docket < lo {
-            return false;
+        let covered = covers(lo, hi_of(e, at), date_of(e, at), docket, stamp);
+        if covered | (docket < lo) | (next == 0) {
+            return covered;
         }
-        if covers(lo, hi_of(e, at), date_of(e, at), docket, stamp) {
-            return true;
-        }
-        at = next_of(e, at);
+        at = next;
     }
     false
 }

@@ -1,7 +1,5 @@
-// What the words of a slot may be, by its kind.
-use table_slots::DELETE;
+// What the words of a free slot and of a range delete may be. All are asked by one expression: words read between branches are addressed more slowly.
 use table_slots::FREE;
-use table_slots::PUT;
 use table_slots::RANGE;
 use table_slots::date_of;
 use table_slots::hi_of;
@@ -13,42 +11,14 @@ use table_slots::span_of;
 use table_slots::stamp_of;
 ghost use mathlib.Core.Path.{_≡_};
 ghost use Rattle.tables.specs.Slots.{InTable};
-ghost use Rattle.tables.specs.Sound.{is-free, is-point, is-range};
+ghost use Rattle.tables.specs.Sound.{is-free, is-range};
 
 // A free slot is zero but for its next, so that nothing of a wiped record is left.
 pub fn is_free(e: &[u32], s: usize) -> bool
     requires { ⌜ InTable (now e) s ⌝ }
     ensures { λ r. ⌜ r ≡ is-free (now (e .entry)) s ⌝ }
 {
-    if kind_of(e, s) != FREE {
-        return false;
-    }
-    if span_of(e, s) != 0 {
-        return false;
-    }
-    if !is_untallied(e, s) {
-        return false;
-    }
-    stamp_of(e, s) == 0
-}
-
-// A put, or a delete without a tally, of one docket.
-pub fn is_point(e: &[u32], s: usize) -> bool
-    requires { ⌜ InTable (now e) s ⌝ }
-    ensures { λ r. ⌜ r ≡ is-point (now (e .entry)) s ⌝ }
-{
-    if lo_of(e, s) != hi_of(e, s) {
-        return false;
-    }
-    let kind = kind_of(e, s);
-    let untallied = is_untallied(e, s);
-    if kind == PUT {
-        return true;
-    }
-    if kind != DELETE {
-        return false;
-    }
-    untallied
+    (kind_of(e, s) == FREE) & (span_of(e, s) == 0) & is_untallied(e, s) & (stamp_of(e, s) == 0)
 }
 
 // A range delete with a date from 1 to its stamp, and without a price.
@@ -56,18 +26,7 @@ pub fn is_range(e: &[u32], s: usize) -> bool
     requires { ⌜ InTable (now e) s ⌝ }
     ensures { λ r. ⌜ r ≡ is-range (now (e .entry)) s ⌝ }
 {
-    if hi_of(e, s) < lo_of(e, s) {
-        return false;
-    }
-    if kind_of(e, s) != RANGE {
-        return false;
-    }
     let date = date_of(e, s);
-    if date < 1 {
-        return false;
-    }
-    if stamp_of(e, s) < date {
-        return false;
-    }
-    price_of(e, s) == 0
+    let dated = (1 <= date) & (date <= stamp_of(e, s));
+    (lo_of(e, s) <= hi_of(e, s)) & ((kind_of(e, s) == RANGE) & dated & (price_of(e, s) == 0))
 }

@@ -29,10 +29,7 @@ fn slot_fits(class: Class, e: &[u32], owed: u32, least: usize, s: usize, marks: 
     if !has_slot(e, s) {
         return false;
     }
-    if is_marked(marks, s) != 0 {
-        return false;
-    }
-    row_fits(class, e, owed, least, s)
+    row_fits(class, e, owed, least, s) & (is_marked(marks, s) == 0)
 }
 
 // Follows the chain from head and marks its slots; a slot that has a mark is met again and ends the walk.

@@ -52,12 +52,19 @@ pub fn lookup(entries: &[u32], levels: &[u32], docket: u32) -> Answer
     }
 }
 
-// Looks one docket up for the grower: count and stamp.
+// Looks one docket up for the grower: count and stamp. Called from here too, a lookup would be compiled into neither, so its steps stand here again.
 pub fn lookup_count(entries: &[u32], levels: &[u32], docket: u32) -> CountAnswer
     ensures { λ r. ⌜ r ≡ lookup-counts (now (entries .entry)) (now (levels .entry)) docket ⌝ }
     ensures { λ r. ⌜ count-numbers r .refusal ≡ docket-refusal (now (entries .entry)) (now (levels .entry)) docket docket ⌝ }
 {
-    without_price(lookup(entries, levels, docket))
+    let refusal = docket_refusal(entries, levels, docket, docket);
+    if refusal != 0 {
+        return CountAnswer::Refused(refusal);
+    }
+    match look_up(entries, levels, docket) {
+        Found::Absent => CountAnswer::Absent,
+        Found::Value(tally, stamp) => CountAnswer::Found(tally.count, stamp),
+    }
 }
 
 // The answer with the price left out.
@@ -91,7 +98,7 @@ fn look_up(e: &[u32], l: &[u32], docket: u32) -> Found
     while left != 0 {
         let level = levels - left;
         match look_level(e, l, level, docket, date) {
-            Decided::Value(tally, stamp) => return Found::Value(tally, stamp),
+            Decided::Value(stamp, tally) => return Found::Value(tally, stamp),
             Decided::Absent => return Found::Absent,
             Decided::Deeper(met) => {
                 date = met;

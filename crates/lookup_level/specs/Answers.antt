@@ -14,7 +14,7 @@ use Rattle.lookup_level.specs.declared.Decided.the-variants.{Value, Abse
 
 -- What a point's entry and stamp say: a put gives its tally and its stamp, a delete means absent.
 abbrev pub says : Entry Tally → ℕ → Decided
-says (value a) t = Value a t
+says (value a) t = Value t a
 says tombstone t = Absent
 
 -- What they decide, by the latest date met so far: "a point found deeper with a stamp at or below it is absent".
@@ -28,7 +28,7 @@ decides date (p ∷ ps) k = cond (eqb (p .key) k) (tells date (p .entry) (p .sta
 
 -- A date is met before going deeper.
 abbrev pub meets : ℕ → Decided → Decided
-meets date (Value a t) = Value a t
+meets date (Value t a) = Value t a
 meets date Absent = Absent
 meets date (Deeper met) = Deeper (max met date)
 
@@ -42,6 +42,6 @@ level-decides date l k = meets (latest (l .ranges) k) (decides date (l .points) 
 
 -- What a level has decided, or else what the deeper levels give for the latest date met so far.
 abbrev pub settle : Decided → (ℕ → model.Found Tally) → model.Found Tally
-settle (Value a t) deeper = model.found a t
+settle (Value t a) deeper = model.found a t
 settle Absent deeper = model.absent
 settle (Deeper date) deeper = deeper date

@@ -17,9 +17,10 @@ ghost use Rattle.tables.specs.Placed.{read-point};
 ghost use Rattle.chain_cover.specs.Walks.{Ordered};
 ghost use Rattle.lookup_level.specs.Answers.{tells, decides, chain-level, level-decides};
 
-// What one level says: a tally and a stamp, that the docket is absent, or to go deeper with the latest date met so far.
+// What one level says: a stamp and a tally, that the docket is absent, or to go deeper with the latest date met so far. The stamp stands
+// before the tally: behind it both would be copied through memory, in parts that do not match.
 pub enum Decided {
-    Value(Tally, u32),
+    Value(u32, Tally),
     Absent,
     Deeper(u32),
 }
@@ -49,7 +50,7 @@ fn tell(e: &[u32], slot: usize, date: u32) -> Decided
     if kind_of(e, slot) != PUT {
         return Decided::Absent;
     }
-    Decided::Value(tally_of(e, slot), stamp)
+    Decided::Value(stamp, tally_of(e, slot))
 }
 
 // Walks the points, which ascend, no farther than the docket.

@@ -43,7 +43,6 @@ use Rattle.scan.proofs.Scanned as C
 use Rattle.check_refusal.proofs.docket_refusal as refusal-fn
 use Rattle.check_refusal.proofs.docket_refusal.Symbol.{name as #dockets·docket-refusal}
 use Rattle.scan.proofs.open as open-first
-use Rattle.scan.proofs.open.Symbol.{name as #scan·open}
 use Rattle.scan.proofs.goes_on as goes-on
 use Rattle.scan.proofs.goes_on.Symbol.{name as #scan·goes-on}
 use Rattle.scan.proofs.next as next
@@ -92,7 +91,7 @@ module _ {M : Type 1} (𝓤 : URA M) (H : Heap 𝓤) (A : Atoms 𝓤) (at-mem : 
   -- what is known of the callees: of each its contract
   pub record Callees (R : Rows) (𝓣 : Tables 𝓤 H) : Type 1 where
     pub finds-refusal : Triple 𝓤 (𝓣 .C #dockets·docket-refusal) DocketRefusal
-    pub open-first : Triple 𝓤 (𝓣 .C #scan·open) Open
+    pub open-first : Triple 𝓤 (𝓣 .C (R .open-first)) Open
     pub goes-on : Triple 𝓤 (𝓣 .C #scan·goes-on) GoesOn
     pub row-of : Triple 𝓤 (𝓣 .C (R .row-of)) (RowOf R 𝓤 H A)
     pub next : Triple 𝓤 (𝓣 .C (R .next)) Next
@@ -324,7 +323,7 @@ module _ {M : Type 1} {𝓤 : URA M} {H : Heap 𝓤} {A : Atoms 𝓤} {at-mem : 
         → Opds K W (open-asks 𝓤 H A at-mem run κ₁ κ₂ q₁ q₂ e l lo hi r w ∷ Both κ₁ κ₂ e l ∷ Γ) En xs
         (table-at e ∷ table-at l ∷ vint w32 lo ∷ vint w32 hi ∷ w ∷ [])
         → ((v : Val) (m : Sweep) → Is S.the-row m (v ∷ []) → Opened (e .now) (l .now) lo hi m → Goes K W 𝓣 En d b q v (Lent κ₁ κ₂ q₁ q₂ e l Γ))
-        → Comes K W 𝓣 En xs d b q #scan·open (Lent κ₁ κ₂ q₁ q₂ e l Γ)
+        → Comes K W 𝓣 En xs d b q (R .open-first) (Lent κ₁ κ₂ q₁ q₂ e l Γ)
     calls-open t known e l lo hi r w low high is c os k =
         move t (1 ∷ []) $ use1 W (Both κ₁ κ₂ e l ⊛ Both κ₁ κ₂ e l) (both-twice 𝓤 H A at-mem run W κ₁ κ₂ q₁ q₂ e l lo hi low high) $
         split t $ move t (2 ∷ 0 ∷ []) $

@@ -11,8 +11,10 @@ use Rattle.scan.proofs.Row as H
 use Rattle.scan.proofs.Row.Laws as H′
 use Rattle.scan.proofs.CountRow as G
 use Rattle.scan.proofs.CountRow.Laws as G′
+use Rattle.scan.proofs.open.Symbol.{name as #scan·open}
 use Rattle.scan.proofs.row_of.Symbol.{name as #scan·row-of}
 use Rattle.scan.proofs.next.Symbol.{name as #scan·next}
+use Rattle.scan.proofs.start.Symbol.{name as #scan·start}
 use Rattle.scan.proofs.count_row_of.Symbol.{name as #scan·count-row-of}
 use Rattle.scan.proofs.seek.Symbol.{name as #scan·seek}
 use Rattle.scan.proofs.Rows.{Rows}
@@ -30,6 +32,7 @@ hall = record {
   plains = H′.the-plain;
   narrow = tt;
   written = written;
+  open-first = #scan·open;
   row-of = #scan·row-of;
   next = #scan·next;
   outcome = scan-tables;
@@ -43,6 +46,7 @@ grower = record {
   plains = G′.the-plain;
   narrow = tt;
   written = counted;
+  open-first = #scan·start;
   row-of = #scan·count-row-of;
   next = #scan·seek;
   outcome = scan-counts-tables;

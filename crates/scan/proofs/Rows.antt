@@ -35,18 +35,18 @@ use Rattle.scan.proofs.Scanned as C
 use Rattle.scan.proofs.Scanned.Laws as C′
 use Rattle.scan.proofs.Entry.{framed}
 use Rattle.check_refusal.proofs.docket_refusal.Symbol.{name as #dockets·docket-refusal}
-use Rattle.scan.proofs.open.Symbol.{name as #scan·open}
 use Rattle.scan.proofs.goes_on.Symbol.{name as #scan·goes-on}
 use Rattle.scan.proofs.close.Symbol.{name as #scan·close}
 
--- A row's type with its laws, how a live docket's row is written, the functions that give a row and come to the next live docket, and the definition
--- of a scan that fills such rows.
+-- A row's type with its laws, how a live docket's row is written, the functions that come to the first live docket, give a row and come to the next, and
+-- the definition of a scan that fills such rows.
 pub record Rows : Type 2 where
   pub type : Declared
   pub laws : Laws type
   pub plains : Plains (fields type)
   pub narrow : T (ltb (mem (row type) .size) (2 ^ 64))
   pub written : model.Row Tally → type .D
+  pub open-first : Name
   pub row-of : Name
   pub next : Name
   pub outcome : List ℕ → List ℕ → ℕ → ℕ → List (type .D) → Outcome (type .D)
@@ -137,7 +137,7 @@ module _ (R : Rows) where
   abbrev pub body : Body
   body =
       seq (call #dockets·docket-refusal (read 1 ∷ read 2 ∷ read 3 ∷ read 4 ∷ []) (local 6))
-      (seq (call #scan·open (read 1 ∷ read 2 ∷ read 3 ∷ read 4 ∷ read 6 ∷ []) (local 7))
+      (seq (call (R .open-first) (read 1 ∷ read 2 ∷ read 3 ∷ read 4 ∷ read 6 ∷ []) (local 7))
       (seq (assign (local 8) (rvOpd (int w64 0))) (seq (block (loop turn)) last)))
 
   abbrev pub function : Fn

@@ -6,9 +6,9 @@ use scan_step::Sweep;
 use scan_step::near;
 use scan_step::stand;
 use scan_sweep::advance;
-use scan_sweep::begin;
 use scan_sweep::ended;
 use scan_sweep::search;
+use scan_sweep::set_out;
 use table_slots::count_of;
 use table_slots::stamp_of;
 use table_slots::tally_of;
@@ -70,7 +70,7 @@ pub fn scan_counts(
     ensures { λ r. ⌜ record { answer = r; rows = now (rows .exit) } ≡ scan-counts-tables (now (entries .entry)) (now (levels .entry)) lo hi (now (rows .entry)) ⌝ }
 {
     let refusal = docket_refusal(entries, levels, lo, hi);
-    let mut m = open(entries, levels, lo, hi, refusal);
+    let mut m = start(entries, levels, lo, hi, refusal);
     let mut i = 0;
     while goes_on(m, i, rows.len()) {
         rows[i] = count_row_of(entries, m);
@@ -86,7 +86,18 @@ fn open(entries: &[u32], levels: &[u32], lo: u32, hi: u32, refusal: u32) -> Swee
     ensures { λ r. ⌜ Opened (now (entries .entry)) (now (levels .entry)) lo hi r ⌝ }
 {
     if refusal == 0 {
-        return begin(entries, levels, lo, hi);
+        return search(entries, set_out(entries, levels, lo, hi));
+    }
+    ended()
+}
+
+// The same for the grower: called from two scans it would be compiled into neither, so its steps stand here again.
+fn start(entries: &[u32], levels: &[u32], lo: u32, hi: u32, refusal: u32) -> Sweep
+    requires { ⌜ refusal ≡ docket-refusal (now entries) (now levels) lo hi ⌝ }
+    ensures { λ r. ⌜ Opened (now (entries .entry)) (now (levels .entry)) lo hi r ⌝ }
+{
+    if refusal == 0 {
+        return search(entries, set_out(entries, levels, lo, hi));
     }
     ended()
 }

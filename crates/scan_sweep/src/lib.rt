@@ -24,13 +24,38 @@ ghost use Rattle.lookup_level.specs.Readable.{Readable};
 ghost use Rattle.scan_step.specs.Sweeps.{next-key, date-above, is-hidden, told, Sweeping};
 ghost use Rattle.scan_sweep.specs.Sweeps.{opened, over, crossed, step-of, searched, advanced};
 
-// Comes to the first live docket from lo to hi.
-pub fn begin(e: &[u32], l: &[u32], lo: u32, hi: u32) -> Sweep
+// Sets out from the first point of each level that is not before lo.
+pub fn set_out(e: &[u32], l: &[u32], lo: u32, hi: u32) -> Sweep
     requires { ⌜ Readable (now e) (now l) ⌝ }
-    requires { ⌜ hi ≤ 65535 ⌝ }
-    ensures { λ r. ⌜ r ≡ searched (now (e .entry)) (opened (now (e .entry)) (now (l .entry)) lo hi) ⌝ }
+    ensures { λ r. ⌜ r ≡ opened (now (e .entry)) (now (l .entry)) lo hi ⌝ }
 {
-    search(e, open(e, l, lo, hi))
+    let levels = deepest_of(l) + 1;
+    let mut heads = nothing();
+    let mut ranges = [0u32; 14];
+    let mut i = 0;
+    while i < levels {
+        let row = level_at(l, i);
+        heads = push(heads, head(e, i, seek(e, row.points, lo)));
+        let f = front_at(e, row.ranges);
+        let at = 2 * i;
+        ranges[at] = f.first as u32;
+        ranges[at + 1] = f.behind as u32;
+        i += 1;
+    }
+    Sweep {
+        heads: heads,
+        ranges: ranges,
+        levels: levels,
+        cover: 0,
+        date: 0,
+        fence: 0,
+        from: lo,
+        hi: hi,
+        going: SEARCHING,
+        live: 0,
+        key: 0,
+        slot: 0,
+    }
 }
 
 // A sweep that has come to its end.
@@ -76,7 +101,7 @@ pub fn advance(e: &[u32], m: Sweep) -> Sweep
     stand(search(e, stand(r, SEARCHING)), ARRIVED)
 }
 
-// Goes on, record by record, to the next live docket.
+// Goes on, record by record, to the next live docket; from where it set out, to the first.
 pub fn search(e: &[u32], m: Sweep) -> Sweep
     requires { ⌜ Sweeping (now e) m ⌝ }
     ensures { λ r. ⌜ r ≡ searched (now (e .entry)) m ⌝ }
@@ -87,40 +112,6 @@ pub fn search(e: &[u32], m: Sweep) -> Sweep
         r = step(e, r);
     }
     r
-}
-
-// Sets out from the first point of each level that is not before lo.
-fn open(e: &[u32], l: &[u32], lo: u32, hi: u32) -> Sweep
-    requires { ⌜ Readable (now e) (now l) ⌝ }
-    ensures { λ r. ⌜ r ≡ opened (now (e .entry)) (now (l .entry)) lo hi ⌝ }
-{
-    let levels = deepest_of(l) + 1;
-    let mut heads = nothing();
-    let mut ranges = [0u32; 14];
-    let mut i = 0;
-    while i < levels {
-        let row = level_at(l, i);
-        heads = push(heads, head(e, i, seek(e, row.points, lo)));
-        let f = front_at(e, row.ranges);
-        let at = 2 * i;
-        ranges[at] = f.first as u32;
-        ranges[at + 1] = f.behind as u32;
-        i += 1;
-    }
-    Sweep {
-        heads: heads,
-        ranges: ranges,
-        levels: levels,
-        cover: 0,
-        date: 0,
-        fence: 0,
-        from: lo,
-        hi: hi,
-        going: SEARCHING,
-        live: 0,
-        key: 0,
-        slot: 0,
-    }
 }
 
 // One record, or the fence before it.

@@ -92,17 +92,14 @@ pub fn date_of(e: &[u32], slot: usize) -> u32
     count_of(e, slot)
 }
 
-// Neither count nor price; both are read first, so that no branch hangs on a count.
+// Neither count nor price. No branch hangs on a count: `&` asks both.
 pub fn is_untallied(e: &[u32], slot: usize) -> bool
     requires { ⌜ InTable (now e) slot ⌝ }
     ensures { λ r. ⌜ r ≡ is-untallied (now (e .entry)) slot ⌝ }
 {
     let count = count_of(e, slot);
     let price = price_of(e, slot);
-    if count != 0 {
-        return false;
-    }
-    price == 0
+    (count == 0) & (price == 0)
 }
 
 pub fn stamp_of(e: &[u32], slot: usize) -> u32
@@ -117,8 +114,8 @@ pub fn order_key(e: &[u32], s: usize) -> usize
     requires { ⌜ InTable (now e) s ⌝ }
     ensures { λ r. ⌜ r ≡ order-key (now (e .entry)) s ⌝ }
 {
-    let span = span_of(e, s) as usize;
-    span % 65536 * 65536 + span / 65536
+    let span = span_of(e, s);
+    (span % BASE * BASE + span / BASE) as usize
 }
 
 // Slot 0 has the first free slot.
@@ -142,10 +139,7 @@ pub fn is_top_blank(e: &[u32]) -> bool
     requires { ⌜ InTable (now e) 0 ⌝ }
     ensures { λ r. ⌜ r ≡ top-blank (now (e .entry)) ⌝ }
 {
-    if !is_untallied(e, 0) {
-        return false;
-    }
-    stamp_of(e, 0) == 0
+    is_untallied(e, 0) & (stamp_of(e, 0) == 0)
 }
 
 // Writes the next slot and the kind, which is stacked on it.
@@ -253,13 +247,7 @@ pub fn entries_fit(entries: &[u32]) -> bool
     ensures { λ r. ⌜ r ≡ entries-fit (now (entries .entry)) ⌝ }
 {
     let n = slot_count(entries);
-    if entries.len() != WORDS * (n + 1) {
-        return false;
-    }
-    if n < 1 {
-        return false;
-    }
-    n <= MOST
+    (entries.len() == WORDS * (n + 1)) & ((1 <= n) & (n <= MOST))
 }
 
 // Writes all words of one slot.

@@ -1,13 +1,15 @@
--- `check_walk::slot_fits`: a slot past the table or with a mark fails, and what is left is its row.
+-- `check_walk::slot_fits`: a slot past the table fails, and what is left is its row and its mark.
 use Rattle.check_walk.specs.Slots.{slot-fits}
-use Rattle.lists.proofs.Branches.{equal, unequal, fails, holds}
-use mathlib.Core.Path.{_≡_, refl}
-use mathlib.Core.Bool.{true}
+use Rattle.lists.proofs.Branches.{fails, holds}
+use mathlib.Core.Path.{_≡_}
+use mathlib.Core.Bool.{true, and-comm}
 use Prim.Native.Nat.{_≤_}
 use native.Mathlib.Omega.{arith}
-use lib.Dec.{leb}
+use lib.Dec.{leb, eqb}
 use borrow.Author.Tests.{leb-true}
 use Rattle.tables.specs.Slots.{slots-of}
+use Rattle.check_marks.specs.Marks.{mark-of}
+use Rattle.check_forms.specs.Forms.{row-fits}
 use borrow.Author.Needs.{needs}
 use Rattle.check_walk.proofs.slot_fits.Statement.{statement}
 use Rattle.check_walk.proofs.slot_fits.Tie as tie
@@ -30,25 +32,21 @@ returns : tie.Need-returns
 unfolding slot-fits
 returns c = rw (fails (c .before .has-slot .ensures) (c .if1 .taken))
 
+row-fits-requires : tie.Need-row-fits-requires
+row-fits-requires c κs = omega (arith, up-to-last c, entry c .pre .0 .number)
+
 is-marked-requires : tie.Need-is-marked-requires
-is-marked-requires c κs = omega (arith, up-to-last c, entry c .pre .1)
+is-marked-requires c κs = omega (arith, up-to-last (c .before), entry (c .before) .pre .1)
 
 returns-2 : tie.Need-returns-2
 unfolding slot-fits
-returns-2 c = rw (inside (c .before .before), unequal (c .before .is-marked .ensures) refl (c .if2 .taken))
-
-row-fits-requires : tie.Need-row-fits-requires
-row-fits-requires c κs =
-    let tested = c .before .before in
-    omega (arith, up-to-last tested, entry tested .pre .0 .number)
-
-returns-3 : tie.Need-returns-3
-unfolding slot-fits
-returns-3 c =
-    let mark-read = c .before .before in
-    rw (inside (mark-read .before), equal (mark-read .is-marked .ensures) refl (c .before .if2 .left)) (c .row-fits .ensures)
+returns-2 c =
+    let row-asked = c .before in
+    let a = entry (row-asked .before) .args in
+    rw (inside (row-asked .before), row-asked .row-fits .ensures, c .is-marked .ensures)
+    (and-comm (row-fits (a .class) (a .e .now) (a .owed) (a .least) (a .s)) (eqb (mark-of (a .marks .now) (a .s)) 0))
 
 pub slot-fits-spec : {M : Type 1} → statement M
 slot-fits-spec =
     tie.close
-    (tie.spec has-slot-requires returns is-marked-requires returns-2 row-fits-requires returns-3)
+    (tie.spec has-slot-requires returns row-fits-requires is-marked-requires returns-2)

@@ -58,13 +58,13 @@ look-level-requires c κs =
     let turn = c .before in
     (entry-of turn .pre, omega (arith, turn .loop .inv .1))
 
-enum-known-tally : tie.Need-enum-known-tally Inv-loop μ-loop
-enum-known-tally c = c .match .keys1
+enum-known-stamp : tie.Need-enum-known-stamp Inv-loop μ-loop
+enum-known-stamp c = c .match .keys1
 
 returns : tie.Need-returns Inv-loop μ-loop
 returns c =
     let said = c .before .before .before in
-    settled said _ _ refl (c .before .tally .given .1)
+    settled said _ _ refl (c .before .stamp .given .1)
 
 enum-told : tie.Need-enum-told Inv-loop μ-loop
 enum-told c = c .match .keys2
@@ -104,7 +104,7 @@ look-up-spec =
     loop-holds
     sub-level
     look-level-requires
-    enum-known-tally
+    enum-known-stamp
     returns
     enum-told
     returns-2

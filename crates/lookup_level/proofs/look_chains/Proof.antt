@@ -35,7 +35,7 @@ returns c =
 
 -- Tags 0 and 1: a point of the docket has decided.
 by-point : (d : Decided) (date : ℕ) → (tagOf (declared enum) d ≡ 0) ⊎ (tagOf (declared enum) d ≡ 1) → meets date d ≡ d
-by-point (Value a t) date w = refl
+by-point (Value t a) date w = refl
 by-point Absent date w = refl
 by-point (Deeper met) date w = ⊎-elim (λ q. absurd (omega arith)) (λ q. absurd (omega arith)) w
 

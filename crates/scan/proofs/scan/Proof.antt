@@ -2,6 +2,9 @@
 use contract.Running.{givenOf, tables, tablesOf}
 use denote.Triple.Spec.{tripleOf}
 use denote.Triple.Table.{entered, cited}
+use Rattle.scan.proofs.open as opens
+use Rattle.scan.proofs.open.Symbol as opens-def
+use Rattle.scan.proofs.open.Met as opens-thm
 use Rattle.scan.proofs.row_of as gives
 use Rattle.scan.proofs.row_of.Symbol as gives-def
 use Rattle.scan.proofs.row_of.Met as gives-thm
@@ -22,7 +25,9 @@ scan-spec 𝓤 H 𝓜 𝓖 𝓡 =
     entered 𝓤 H (tripleOf 𝓤 H (𝓖 .A) f.signature (f.spec 𝓤 H (𝓖 .A) (𝓜 .mem) (𝓡 .run)))
     (tables 𝓤 H 𝓜 𝓡 code.env .C) (tables 𝓤 H 𝓜 𝓡 code.env .Λ) #scan·scan code.function (code.unfolded 𝓤 H 𝓜 𝓡)
     (scan-meets hall 𝓤 H (𝓖 .A) (givenOf 𝓤 H 𝓜 𝓖) (𝓜 .mem) (𝓡 .run) (tablesOf 𝓤 H 𝓜 (tables 𝓤 H 𝓜 𝓡 code.env))
-    (callees hall 𝓤 H 𝓜 𝓖 𝓡 code.env code.calls-check-refusal·docket-refusal code.calls-scan·open code.calls-scan·goes-on code.calls-scan·close
+    (callees hall 𝓤 H 𝓜 𝓖 𝓡 code.env code.calls-check-refusal·docket-refusal code.calls-scan·goes-on code.calls-scan·close
+    (cited 𝓤 H (tripleOf 𝓤 H (𝓖 .A) opens.signature (opens.spec 𝓤 H (𝓖 .A) (𝓜 .mem) (𝓡 .run))) 𝓜 𝓡 code.env (hall .open-first)
+    opens-def.routine code.calls-scan·open (opens-thm.met 𝓤 H 𝓜 𝓖 𝓡))
     (cited 𝓤 H (tripleOf 𝓤 H (𝓖 .A) gives.signature (gives.spec 𝓤 H (𝓖 .A) (𝓜 .mem) (𝓡 .run))) 𝓜 𝓡 code.env (hall .row-of)
     gives-def.routine code.calls-scan·row-of (gives-thm.met 𝓤 H 𝓜 𝓖 𝓡))
     (cited 𝓤 H (tripleOf 𝓤 H (𝓖 .A) next.signature (next.spec 𝓤 H (𝓖 .A) (𝓜 .mem) (𝓡 .run))) 𝓜 𝓡 code.env (hall .next)

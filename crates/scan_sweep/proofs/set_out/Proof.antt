@@ -1,4 +1,4 @@
--- The loop keeps: with the levels still to come the heads and the ranges are those of all.
+-- `scan_sweep::set_out`: the loop keeps that with the levels still to come the heads and the ranges are those of all.
 use mathlib.Core.List.{List}
 use mathlib.Core.Path.{_≡_, refl, sym, ap, _∙_}
 use Prim.Native.Nat.{ℕ, _+_, _-_, _*_, _<_, _≤_}
@@ -21,8 +21,8 @@ use Rattle.scan_fences.specs.Fences.{put-front}
 use Rattle.scan_fences.proofs.Levels.{put-length, first-low, behind-low}
 use Rattle.scan_sweep.specs.Sweeps.{first-from, opened-heads, opened-ranges, opened}
 use Rattle.scan_sweep.proofs.Opening.{front-is-ordered, front-small}
-use Rattle.scan_sweep.proofs.open.Statement.{statement}
-use Rattle.scan_sweep.proofs.open.Tie as tie
+use Rattle.scan_sweep.proofs.set_out.Statement.{statement}
+use Rattle.scan_sweep.proofs.set_out.Tie as tie
 
 -- What a turn does to the heads, and what it does to the ranges.
 abbrev push-level : List ℕ → List ℕ → ℕ → ℕ → Heads → Heads
@@ -208,8 +208,8 @@ returns c =
     let ranges-are = sym (iterate-end (range-level e l) _ i ranges (c .loop-test .left)) ∙ turn .loop .inv .4 in
     opens e l lo (entry turn .args .hi) _ heads ranges (turn .loop .inv .1) heads-are ranges-are
 
-pub open-spec : {M : Type 1} → statement M
-open-spec =
+pub set-out-spec : {M : Type 1} → statement M
+set-out-spec =
     tie.close
     (tie.spec
     Inv-loop
