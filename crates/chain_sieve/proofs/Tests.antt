@@ -1,10 +1,7 @@
 -- What each outcome of the code's comparisons tells of the test.
 use mathlib.Core.Path.{_≡_}
-use mathlib.Core.Logic.{_≢_}
-use mathlib.Core.Bool.{Bool, false}
+use mathlib.Core.Bool.{Bool, _&&_}
 use Prim.Native.Nat.{ℕ}
-use native.Mathlib.Omega.{arith}
-use borrow.Author.Tests.{eq-eqb, ne-eqb}
 use lib.Dec.{eqb}
 use Rattle.model.specs.Coverage.{covers}
 use Rattle.tables.specs.Placed.{Cell}
@@ -24,8 +21,5 @@ module _ (which : Doomed) (c : Cell) (lo hi key : ℕ) (key≡ : key ≡ cell-lo
   pub by-cover : (date stamp : ℕ) (says : Bool) → which ≡ Covered lo hi date → stamp ≡ c .stamp → says ≡ covers lo hi date key stamp → says ≡ doomed which c
   by-cover date stamp says q t s = rw (q, ← key≡, ← t) s
 
-  pub other-range : which ≡ Range lo hi → key ≢ lo → false ≡ doomed which c
-  other-range q h = rw (q, ne-eqb (cell-lo c) lo (λ r. h (omega arith)))
-
-  pub by-range : (last : ℕ) → which ≡ Range lo hi → key ≡ lo → last ≡ cell-hi c → eqb last hi ≡ doomed which c
-  by-range last q h l = rw (q, l, eq-eqb (cell-lo c) lo (omega arith))
+  pub by-range : (last : ℕ) → which ≡ Range lo hi → last ≡ cell-hi c → eqb key lo && eqb last hi ≡ doomed which c
+  by-range last q l = rw (q, key≡, l)

@@ -69,11 +69,6 @@ fn is_doomed(e: &[u32], slot: usize, which: Doomed) -> bool
         Doomed::All => true,
         Doomed::Docket(docket) => lo_of(e, slot) == docket,
         Doomed::Covered(lo, hi, date) => covers(lo, hi, date, lo_of(e, slot), stamp_of(e, slot)),
-        Doomed::Range(lo, hi) => {
-            if lo_of(e, slot) != lo {
-                return false;
-            }
-            hi_of(e, slot) == hi
-        },
+        Doomed::Range(lo, hi) => (lo_of(e, slot) == lo) & (hi_of(e, slot) == hi),
     }
 }
