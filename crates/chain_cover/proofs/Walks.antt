@@ -5,11 +5,11 @@ use mathlib.Core.List.{List, [], _∷_, map}
 use Prim.Native.Nat.{ℕ, _<_, _≤_}
 use native.Mathlib.Omega.{arith}
 use native.Mathlib.Decide.{decLt}
-use borrow.Author.Tests.{eq-eqb, ne-eqb, eqb-true, le-leb, leb-true, ltb-true}
-use lib.Dec.{eqb, leb, ltb}
+use borrow.Author.Tests.{eq-eqb, ne-eqb, le-leb, leb-true}
+use lib.Dec.{eqb, leb}
 use Rattle.lists.specs.All.{All}
 use Rattle.lists.specs.Lists.{any}
-use Rattle.lists.proofs.Bools.{by-cases, both-false, bool-ext, and-left, and-right, and-intro, or-second}
+use Rattle.lists.proofs.Bools.{by-cases, both-false, bool-ext, and-left, and-right, and-intro, and-false-right, or-false-left, or-false-right}
 use Rattle.model.specs.Coverage.{over, covers}
 use Rattle.model.specs.Merge.{covered, names}
 use Rattle.model.proofs.Coverage.{over-inside, over-bounds, over-before, over-past, covers-true, covers-parts}
@@ -43,6 +43,11 @@ module _ (lo hi date k t : ℕ) where
       let parts = covers-parts lo hi date k t is in
       let on = over-bounds lo hi k (parts .0) in
       and-intro at (leb t date) (and-intro (leb lo k) (leb k hi) (le-leb lo k (on .0)) (le-leb k hi (on .1))) (le-leb t date (parts .1)))
+
+  -- The date as it was read, one test among three.
+  pub covers-late : {read : ℕ} (a b : Bool) → read ≡ date → a || leb t read || b ≡ false → covers lo hi date k t ≡ false
+  covers-late {read} a b is off =
+      sym covers-tests ∙ and-false-right (leb lo k && leb k hi) (leb t date) (rw (← is) (or-false-right a (leb t read) (or-false-left (a || leb t read) b off)))
 
 -- The same of words that were read.
 pub covers-read : (lo hi date lo′ hi′ date′ k t : ℕ) (says : Bool) → lo ≡ lo′ → hi ≡ hi′ → date ≡ date′ → says ≡ covers lo hi date k t → covers lo′ hi′ date′ k t ≡ says
@@ -114,13 +119,3 @@ module _ (e : List ℕ) (h k t : ℕ) where
 
     pub ranges-next : covers (lo-of e h) (hi-of e h) (date-of e h) k t ≡ false → ranges-say e h k t ≡ ranges-say e (next-of e h) k t
     ranges-next q = rw (on .whole) (slots-next e h (chain-from e (next-of e h)) k t q)
-
--- A walk that stops at a range, for any of three reasons, has its answer there.
-module _ (e : List ℕ) (h k t : ℕ) (on : On e h) (words : Fits32 e) where
-  pub ranges-stop : (says : Bool) (lo next : ℕ) → covers (lo-of e h) (hi-of e h) (date-of e h) k t ≡ says → lo ≡ lo-of e h → next ≡ next-of e h →
-      says || ltb k lo || eqb next 0 ≡ true → says ≡ ranges-say e h k t
-  ranges-stop true lo next is p q stop = sym (ranges-here e h k t on is)
-  ranges-stop false lo next is p q stop =
-      sym
-      (by-cases (ltb k lo) (λ lt. ranges-past e h k t on words (omega (arith, ltb-true k lo lt)))
-      (λ ge. ranges-next e h k t on is ∙ ranges-end e (next-of e h) k t (sym q ∙ eqb-true next 0 (or-second (ltb k lo) (eqb next 0) stop ge))))

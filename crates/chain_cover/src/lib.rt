@@ -184,7 +184,7 @@ fn pass_behind(e: &[u32], f: Front, docket: u32) -> Front
     }
 }
 
-// Walks the ranges, which ascend by lo, no farther than the docket. All of a range is read before one test of it: read apart, its words would be addressed more slowly.
+// Walks the ranges, which ascend by lo, no farther than the docket. One test passes most of them, and asks for all that is read, so that it is read at once.
 fn is_covered(e: &[u32], head: usize, docket: u32, stamp: u32) -> bool
     requires { ⌜ Ordered (now e) head ⌝ }
     ensures { λ r. ⌜ r ≡ covered (map (read-range (now (e .entry))) (chain-from (now (e .entry)) head)) docket stamp ⌝ }
@@ -193,9 +193,14 @@ fn is_covered(e: &[u32], head: usize, docket: u32, stamp: u32) -> bool
     while at != 0 {
         let next = next_of(e, at);
         let lo = lo_of(e, at);
-        let covered = covers(lo, hi_of(e, at), date_of(e, at), docket, stamp);
-        if covered | (docket < lo) | (next == 0) {
-            return covered;
+        let date = date_of(e, at);
+        if (docket < lo) | (stamp <= date) | (next == 0) {
+            if covers(lo, hi_of(e, at), date, docket, stamp) {
+                return true;
+            }
+            if docket < lo {
+                return false;
+            }
         }
         at = next;
     }
