@@ -226,7 +226,7 @@ pub fn slot_count(entries: &[u32]) -> usize
     slots - 1
 }
 
-// Whether the table has the slot: a link may lead anywhere. One test less than with slot_count, or the check's walk would not be compiled into its callers.
+// Whether the table has the slot: a link may lead anywhere. One test less than with slot_count, for each slot of the check.
 pub fn has_slot(entries: &[u32], slot: usize) -> bool
     requires { ⌜ InTable (now entries) 0 ⌝ }
     ensures { λ r. ⌜ r ≡ leb slot (slots-of (now (entries .entry))) ⌝ }
