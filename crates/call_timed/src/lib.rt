@@ -11,7 +11,8 @@ ghost use Rattle.call_end.specs.Coded.{called};
 
 // Puts a docket's tally.
 pub fn put(entries: &mut [u32], levels: &mut [u32], clock: u32, docket: u32, tally: Tally) -> Answer
-    ensures { λ r. ⌜ called (now (entries .exit)) (now (levels .exit)) r ≡ call-tables (lent (now (entries .entry)) (now (levels .entry))) (record { clock = clock; op = written (put docket tally) }) ⌝ }
+    ensures { λ r. ⌜ called (now (entries .exit)) (now (levels .exit)) r ≡
+        call-tables (lent (now (entries .entry)) (now (levels .entry))) (record { clock = clock; op = written (put docket tally) }) ⌝ }
 {
     call(entries, levels, clock, Op::Put(docket, tally))
 }
@@ -25,7 +26,8 @@ pub fn delete(entries: &mut [u32], levels: &mut [u32], clock: u32, docket: u32) 
 
 // Deletes the dockets from lo to hi; its clock is its date.
 pub fn delete_range(entries: &mut [u32], levels: &mut [u32], clock: u32, lo: u32, hi: u32) -> Answer
-    ensures { λ r. ⌜ called (now (entries .exit)) (now (levels .exit)) r ≡ call-tables (lent (now (entries .entry)) (now (levels .entry))) (record { clock = clock; op = written (delete-range lo hi clock) }) ⌝ }
+    ensures { λ r. ⌜ called (now (entries .exit)) (now (levels .exit)) r ≡
+        call-tables (lent (now (entries .entry)) (now (levels .entry))) (record { clock = clock; op = written (delete-range lo hi clock) }) ⌝ }
 {
     call(entries, levels, clock, Op::DeleteRange(lo, hi, clock))
 }
@@ -39,7 +41,8 @@ pub fn delete_range_dated(
     hi: u32,
     date: u32,
 ) -> Answer
-    ensures { λ r. ⌜ called (now (entries .exit)) (now (levels .exit)) r ≡ call-tables (lent (now (entries .entry)) (now (levels .entry))) (record { clock = clock; op = written (delete-range lo hi date) }) ⌝ }
+    ensures { λ r. ⌜ called (now (entries .exit)) (now (levels .exit)) r ≡
+        call-tables (lent (now (entries .entry)) (now (levels .entry))) (record { clock = clock; op = written (delete-range lo hi date) }) ⌝ }
 {
     call(entries, levels, clock, Op::DeleteRange(lo, hi, date))
 }

@@ -14,7 +14,8 @@ use Rattle.chain_links.specs.Links.{linked, released}
 use Rattle.chain_cells.specs.Cells.{last-from}
 use Rattle.chain_cells.specs.Held.{Held, top}
 use Rattle.chain_links.proofs.Links.{length-linked, linked-other, length-released, released-other, released-same, released-top}
-use Rattle.chain_cells.proofs.Frames.{Off, ChainedTo, chained-to-off, all-off, chain-start, chain-end, chain-whole, last-stands, last-inside, link-row, relink, stands, stands-once, SameSlots, still-once, sum-append-cells, sum-cell}
+use Rattle.chain_cells.proofs.Frames.{Off, ChainedTo, chained-to-off, all-off, chain-start, chain-end, chain-whole, last-stands, last-inside}
+use Rattle.chain_cells.proofs.Frames.{link-row, relink, stands, stands-once, SameSlots, still-once, sum-append-cells, sum-cell}
 
 -- The cells before the place lead to slot h, and all other chains are whole.
 pub record Cut (n clock : ℕ) (free : List ℕ) (done : List Cell) (h : ℕ) (rest : List (List Cell)) (e : List ℕ) : Type 0 where

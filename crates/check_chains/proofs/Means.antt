@@ -14,7 +14,8 @@ use Rattle.lists.proofs.Bools.{cond-and, and-ap}
 use Rattle.lists.proofs.Tests.{all-append}
 use Rattle.tables.specs.Slots.{slots-of, first-free, clock-of}
 use Rattle.tables.specs.Rows.{settings-of, level-row}
-use Rattle.tables.specs.Sound.{free-chain, point-chain, range-chain, is-free, is-point, is-range, order-key, ascend, is-stamped, owed-before, level-sound, levels-sound, record-slots, every-slot-once, chains-sound, top-blank}
+use Rattle.tables.specs.Sound.{free-chain, point-chain, range-chain, is-free, is-point, is-range, order-key, ascend, is-stamped}
+use Rattle.tables.specs.Sound.{owed-before, level-sound, levels-sound, record-slots, every-slot-once, chains-sound, top-blank}
 use Rattle.check_forms.specs.declared.Class.the-variants.{Free, Points, Ranges}
 use Rattle.check_forms.specs.Forms.{record-fits, row-fits}
 use Rattle.check_walk.specs.Walks.{Marked, walked}

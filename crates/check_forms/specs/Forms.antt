@@ -1,4 +1,4 @@
--- What is asked of the row of one slot of a chain, in the order of the code.
+-- What is asked of the row of one slot of a chain: its form, its order among the others, its stamp and what its level owes.
 use mathlib.Core.Bool.{Bool, _&&_}
 use mathlib.Core.List.{List}
 use Prim.Native.Nat.{ℕ}

@@ -14,7 +14,8 @@ use Rattle.lists.proofs.Bools.{by-cases, both-false}
 use Rattle.model.specs.declared.Tally.{Tally}
 use Rattle.tables.specs.Slots.{slot-size, slot-at, next-of, kind-of, tally-of, count-of, price-of, first-free}
 use Rattle.tables.specs.Rows.{settings-of, level-row}
-use Rattle.tables.specs.Sound.{chain, chain-from, free-chain, point-chain, range-chain, is-free, is-point, is-range, ascend, is-stamped, owed-before, level-sound, levels-sound, record-slots, chains-sound, entries-fit, table-refusal}
+use Rattle.tables.specs.Sound.{chain, chain-from, free-chain, point-chain, range-chain, is-free, is-point, is-range, ascend, is-stamped}
+use Rattle.tables.specs.Sound.{owed-before, level-sound, levels-sound, record-slots, chains-sound, entries-fit, table-refusal}
 use Rattle.tables.specs.Placed.{read-range, point-as, level-as, levels-as, state-as, read-state}
 use Rattle.tables.proofs.Linked.{range-parts}
 use Rattle.tables.proofs.SoundWords.{Sound, sound-facts}

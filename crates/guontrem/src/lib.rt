@@ -45,7 +45,8 @@ pub extern "C" fn guontrem_make(
     buffer: u32,
     term: u32,
 ) -> u32
-    ensures { λ r. ⌜ record { refusal = r; entries = now (entries .exit); levels = now (levels .exit) } ≡ make-tables (now (entries .entry)) (now (levels .entry)) (record { deepest = deepest; ratio = ratio; buffer = buffer; term = term }) ⌝ }
+    ensures { λ r. ⌜ record { refusal = r; entries = now (entries .exit); levels = now (levels .exit) } ≡
+        make-tables (now (entries .entry)) (now (levels .entry)) (record { deepest = deepest; ratio = ratio; buffer = buffer; term = term }) ⌝ }
 {
     make(entries, levels, deepest, ratio, buffer, term)
 }
@@ -84,7 +85,8 @@ pub extern "C" fn guontrem_put(
     count: u32,
     price: u32,
 ) -> u64
-    ensures { λ r. ⌜ record { tables = lent (now (entries .exit)) (now (levels .exit)); number = r } ≡ packed-call (call-tables (lent (now (entries .entry)) (now (levels .entry))) (record { clock = clock; op = written (put docket (record { count = count; price = price })) })) ⌝ }
+    ensures { λ r. ⌜ record { tables = lent (now (entries .exit)) (now (levels .exit)); number = r } ≡
+        packed-call (call-tables (lent (now (entries .entry)) (now (levels .entry))) (record { clock = clock; op = written (put docket (record { count = count; price = price })) })) ⌝ }
 {
     call_packed(
         entries,
@@ -108,7 +110,8 @@ pub extern "C" fn guontrem_delete(
     clock: u32,
     docket: u32,
 ) -> u64
-    ensures { λ r. ⌜ record { tables = lent (now (entries .exit)) (now (levels .exit)); number = r } ≡ packed-call (call-tables (lent (now (entries .entry)) (now (levels .entry))) (record { clock = clock; op = written (delete docket) })) ⌝ }
+    ensures { λ r. ⌜ record { tables = lent (now (entries .exit)) (now (levels .exit)); number = r } ≡
+        packed-call (call-tables (lent (now (entries .entry)) (now (levels .entry))) (record { clock = clock; op = written (delete docket) })) ⌝ }
 {
     call_packed(entries, levels, clock, Op::Delete(docket))
 }
@@ -122,7 +125,8 @@ pub extern "C" fn guontrem_delete_range(
     lo: u32,
     hi: u32,
 ) -> u64
-    ensures { λ r. ⌜ record { tables = lent (now (entries .exit)) (now (levels .exit)); number = r } ≡ packed-call (call-tables (lent (now (entries .entry)) (now (levels .entry))) (record { clock = clock; op = written (delete-range lo hi clock) })) ⌝ }
+    ensures { λ r. ⌜ record { tables = lent (now (entries .exit)) (now (levels .exit)); number = r } ≡
+        packed-call (call-tables (lent (now (entries .entry)) (now (levels .entry))) (record { clock = clock; op = written (delete-range lo hi clock) })) ⌝ }
 {
     call_packed(entries, levels, clock, Op::DeleteRange(lo, hi, clock))
 }
@@ -137,7 +141,8 @@ pub extern "C" fn guontrem_delete_range_dated(
     hi: u32,
     date: u32,
 ) -> u64
-    ensures { λ r. ⌜ record { tables = lent (now (entries .exit)) (now (levels .exit)); number = r } ≡ packed-call (call-tables (lent (now (entries .entry)) (now (levels .entry))) (record { clock = clock; op = written (delete-range lo hi date) })) ⌝ }
+    ensures { λ r. ⌜ record { tables = lent (now (entries .exit)) (now (levels .exit)); number = r } ≡
+        packed-call (call-tables (lent (now (entries .entry)) (now (levels .entry))) (record { clock = clock; op = written (delete-range lo hi date) })) ⌝ }
 {
     call_packed(entries, levels, clock, Op::DeleteRange(lo, hi, date))
 }
@@ -145,7 +150,8 @@ pub extern "C" fn guontrem_delete_range_dated(
 // Merges the buffer, full or not, and does the pass.
 #[no_mangle]
 pub extern "C" fn guontrem_flush(entries: &mut [u32], levels: &mut [u32], clock: u32) -> u64
-    ensures { λ r. ⌜ record { tables = lent (now (entries .exit)) (now (levels .exit)); number = r } ≡ packed-call (call-tables (lent (now (entries .entry)) (now (levels .entry))) (record { clock = clock; op = flush })) ⌝ }
+    ensures { λ r. ⌜ record { tables = lent (now (entries .exit)) (now (levels .exit)); number = r } ≡
+        packed-call (call-tables (lent (now (entries .entry)) (now (levels .entry))) (record { clock = clock; op = flush })) ⌝ }
 {
     call_packed(entries, levels, clock, Op::Flush)
 }
@@ -153,14 +159,16 @@ pub extern "C" fn guontrem_flush(entries: &mut [u32], levels: &mut [u32], clock:
 // Does the pass alone.
 #[no_mangle]
 pub extern "C" fn guontrem_tick(entries: &mut [u32], levels: &mut [u32], clock: u32) -> u64
-    ensures { λ r. ⌜ record { tables = lent (now (entries .exit)) (now (levels .exit)); number = r } ≡ packed-call (call-tables (lent (now (entries .entry)) (now (levels .entry))) (record { clock = clock; op = tick })) ⌝ }
+    ensures { λ r. ⌜ record { tables = lent (now (entries .exit)) (now (levels .exit)); number = r } ≡
+        packed-call (call-tables (lent (now (entries .entry)) (now (levels .entry))) (record { clock = clock; op = tick })) ⌝ }
 {
     call_packed(entries, levels, clock, Op::Tick)
 }
 
 // A timed call, its answer as one number.
 fn call_packed(entries: &mut [u32], levels: &mut [u32], clock: u32, op: Op) -> u64
-    ensures { λ r. ⌜ record { tables = lent (now (entries .exit)) (now (levels .exit)); number = r } ≡ packed-call (call-tables (lent (now (entries .entry)) (now (levels .entry))) (record { clock = clock; op = op-of op })) ⌝ }
+    ensures { λ r. ⌜ record { tables = lent (now (entries .exit)) (now (levels .exit)); number = r } ≡
+        packed-call (call-tables (lent (now (entries .entry)) (now (levels .entry))) (record { clock = clock; op = op-of op })) ⌝ }
 {
     let answer = call(entries, levels, clock, op);
     pack(answer.refusal, answer.merges, answer.purged)

@@ -18,7 +18,8 @@ pub fn make(
     buffer: u32,
     term: u32,
 ) -> u32
-    ensures { λ r. ⌜ record { refusal = r; entries = now (entries .exit); levels = now (levels .exit) } ≡ make-tables (now (entries .entry)) (now (levels .entry)) (record { deepest = deepest; ratio = ratio; buffer = buffer; term = term }) ⌝ }
+    ensures { λ r. ⌜ record { refusal = r; entries = now (entries .exit); levels = now (levels .exit) } ≡
+        make-tables (now (entries .entry)) (now (levels .entry)) (record { deepest = deepest; ratio = ratio; buffer = buffer; term = term }) ⌝ }
 {
     if !entries_fit(entries) {
         return refusals::ENTRY_LENGTH;

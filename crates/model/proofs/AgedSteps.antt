@@ -12,7 +12,8 @@ use Rattle.lists.proofs.Bools.{cond-elim}
 use Rattle.lists.proofs.Tests.{all-weaken, all-map, all-select, all-get}
 use Rattle.model.specs.Records.{Point, Level, State, empty, level}
 use Rattle.model.specs.Merge.{release, settled}
-use Rattle.model.specs.Steps.{Work, Write, put, delete, delete-range, begin, merge-state, merge-level, merge-all, displaced, enter-at, enter, overwrite, wipe, set-points, act-deepest, crowded, make-room, full, write, pass}
+use Rattle.model.specs.Steps.{Work, Write, put, delete, delete-range, begin, merge-state, merge-level, merge-all, displaced, enter-at}
+use Rattle.model.specs.Steps.{enter, overwrite, wipe, set-points, act-deepest, crowded, make-room, full, write, pass}
 use Rattle.model.specs.Calls.{Op, written, flush, tick, Call, Outcome, early-refusal, prepared, out-of-slots, step}
 use Rattle.model.specs.Lookup.{lookup}
 use Rattle.model.proofs.Keeps.{merge-all-keeps, pass-keeps, prepared-kept}

@@ -12,7 +12,8 @@ use Rattle.model.specs.declared.Tally.{Tally}
 use Rattle.model.specs.Records.{Entry, value, tombstone, Point, State, fresh}
 use Rattle.model.specs.Coverage.{over, covers}
 use Rattle.model.specs.Merge.{later, merged, settled, joined, freed}
-use Rattle.model.specs.Steps.{delete, delete-range, single, merge-state, merge-level, merge-all, enter-at, enter, set-points, wipe, act-deepest, crowded, make-room, full, write, no-slot, buffer-due, due, pass-buffer, pass-level, pass, still-due}
+use Rattle.model.specs.Steps.{delete, delete-range, single, merge-state, merge-level, merge-all, enter-at, enter, set-points, wipe, act-deepest}
+use Rattle.model.specs.Steps.{crowded, make-room, full, write, no-slot, buffer-due, due, pass-buffer, pass-level, pass, still-due}
 use Rattle.model.specs.Lookup.{live-from, scan, latest, find, lookup-from}
 use Rattle.model.specs.Live.{all-points}
 use Rattle.model.specs.Calls.{prepared, finish, step, run, answers}

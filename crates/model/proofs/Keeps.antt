@@ -12,7 +12,8 @@ use Rattle.lists.proofs.Bools.{cond-elim, by-cases, and-intro, and-second-false
 use Rattle.lists.proofs.Loops.{iterate-keeps}
 use Rattle.model.specs.Records.{State, level}
 use Rattle.model.specs.Merge.{release}
-use Rattle.model.specs.Steps.{Work, Write, put, delete, delete-range, begin, merge-state, merge-level, merge-all, displaced, enter-at, enter, set-points, wipe, act-deepest, crowded, make-room, full, write, buffer-due, due, pass-buffer, pass-level, pass, still-due}
+use Rattle.model.specs.Steps.{Work, Write, put, delete, delete-range, begin, merge-state, merge-level, merge-all, displaced, enter-at, enter, set-points}
+use Rattle.model.specs.Steps.{wipe, act-deepest, crowded, make-room, full, write, buffer-due, due, pass-buffer, pass-level, pass, still-due}
 use Rattle.model.specs.Calls.{Op, written, flush, tick, Call, Outcome, early-refusal, timed, refused, prepared, out-of-slots, finish, step, run}
 
 none-release : {X : Type 0} (xs ys : List X) → none (release xs ys) ≡ true → (none xs ≡ true) × (none ys ≡ true)

@@ -15,7 +15,8 @@ use Rattle.lists.proofs.Tests.{all-weaken, all-every}
 use Rattle.model.specs.Records.{value, Point, Level, State, empty, level}
 use Rattle.model.specs.Coverage.{over, covers}
 use Rattle.model.specs.Merge.{covered, names, release, merged, settled}
-use Rattle.model.specs.Steps.{write-covers, Work, Write, put, delete, delete-range, single, unplaced, begin, merge-state, merge-level, merge-all, displaced, enter-at, enter, overwrite, wipe, set-points, act-deepest, crowded, make-room, full, write, no-slot, pass}
+use Rattle.model.specs.Steps.{write-covers, Work, Write, put, delete, delete-range, single, unplaced, begin, merge-state, merge-level, merge-all, displaced}
+use Rattle.model.specs.Steps.{enter-at, enter, overwrite, wipe, set-points, act-deepest, crowded, make-room, full, write, no-slot, pass}
 use Rattle.model.specs.Lookup.{Found, absent, found, judged, find, lookup-from, lookup}
 use Rattle.model.specs.Calls.{Op, written, flush, tick, prepared, out-of-slots}
 use Rattle.model.proofs.Coverage.{over-one}

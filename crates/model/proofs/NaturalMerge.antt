@@ -10,7 +10,8 @@ use Rattle.lists.proofs.Bools.{cond-ap}
 use Rattle.lists.proofs.Tests.{any-map, select-map, select-same, append-map, map-map}
 use Rattle.lists.proofs.Merges.{merge-map}
 use Rattle.model.specs.Records.{Entry, value, tombstone, Point, Range, Level, is-put, held, held-all}
-use Rattle.model.specs.Merge.{range-covers, covered, range-before, range-slots, names, point-before, point-slots, same-range, range-goes, point-goes, gone, united, later, merged, settled, delete-slots, joined, freed}
+use Rattle.model.specs.Merge.{range-covers, covered, range-before, range-slots, names, point-before, point-slots, same-range}
+use Rattle.model.specs.Merge.{range-goes, point-goes, gone, united, later, merged, settled, delete-slots, joined, freed}
 use Rattle.model.specs.Renaming.{map-entry, map-point, map-range, map-level}
 
 module _ {S T A B : Type 0} (g : S → T) (f : A → B) where

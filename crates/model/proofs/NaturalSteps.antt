@@ -12,7 +12,9 @@ use Rattle.lists.proofs.Tests.{none-map, reverse-map, set-map}
 use Rattle.lists.proofs.Loops.{iterate-map}
 use Rattle.model.specs.Records.{Point, Level, State, empty, level}
 use Rattle.model.specs.Merge.{point-slots, point-goes, release, merged, joined, freed}
-use Rattle.model.specs.Steps.{Work, Write, put, delete, delete-range, single, unplaced, begin, merge-state, merge-level, merge-all, displaced, enter-at, enter, overwrite, set-points, wipe, act-deepest, crowded, make-room, full, write, no-slot, buffer-due, due, pass-buffer, pass-level, pass, still-due}
+use Rattle.model.specs.Steps.{Work, Write, put, delete, delete-range, single, unplaced, begin, merge-state, merge-level}
+use Rattle.model.specs.Steps.{merge-all, displaced, enter-at, enter, overwrite, set-points, wipe, act-deepest, crowded, make-room}
+use Rattle.model.specs.Steps.{full, write, no-slot, buffer-due, due, pass-buffer, pass-level, pass, still-due}
 use Rattle.model.specs.Renaming.{map-point, map-level, map-state, map-work, map-write}
 use Rattle.model.proofs.NaturalMerge.{names-map, held-map, point-slots-map, going-map, staying-map, gone-map, merged-map, joined-map, freed-map}
 

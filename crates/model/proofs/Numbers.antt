@@ -13,7 +13,8 @@ use Rattle.lists.proofs.Tests.{all-every}
 use Rattle.lists.proofs.Loops.{iterate-holds}
 use Rattle.model.specs.Records.{Level, State, level, held, held-all}
 use Rattle.model.specs.Merge.{point-goes, point-slots, release, freed}
-use Rattle.model.specs.Steps.{Work, Write, put, delete, delete-range, unplaced, begin, merge-state, merge-level, merge-all, displaced, enter-at, enter, set-points, wipe, act-deepest, crowded, make-room, full, write, buffer-due, due, pass-buffer, pass-level, pass}
+use Rattle.model.specs.Steps.{Work, Write, put, delete, delete-range, unplaced, begin, merge-state, merge-level, merge-all, displaced, enter-at, enter}
+use Rattle.model.specs.Steps.{set-points, wipe, act-deepest, crowded, make-room, full, write, buffer-due, due, pass-buffer, pass-level, pass}
 use Rattle.model.specs.Calls.{Op, written, flush, tick, Call, Outcome, count-written, prepared, step, run}
 use Rattle.model.specs.Erasure.{accepted}
 use Rattle.model.proofs.Keeps.{Kept, merge-all-keeps, pass-keeps, prepared-kept, run-keeps, enter-settings, act-settings}

@@ -11,7 +11,8 @@ use Rattle.lists.specs.Lists.{none, any, select, reject, sum}
 use Rattle.lists.proofs.Bools.{cond-elim}
 use Rattle.lists.proofs.Counting.{sum-set, sum-append, sum-reverse, sum-select, sum-merge, sum-map, sum-same}
 use Rattle.model.specs.Records.{Point, Range, Level, State, is-put, empty, level}
-use Rattle.model.specs.Merge.{range-before, range-slots, point-before, point-slots, same-range, range-goes, point-goes, gone, united, later, release, merged, settled, delete-slots, joined, freed}
+use Rattle.model.specs.Merge.{range-before, range-slots, point-before, point-slots, same-range, range-goes, point-goes}
+use Rattle.model.specs.Merge.{gone, united, later, release, merged, settled, delete-slots, joined, freed}
 use Rattle.model.specs.Steps.{Write, put, delete, delete-range, single, unplaced, merge-state, displaced, enter-at, enter, overwrite, set-points, wipe, act-deepest}
 
 -- The weight of points, of ranges and of a level, by their slots.

@@ -16,7 +16,8 @@ use Rattle.lists.specs.Lists.{iterate, none}
 use Rattle.lists.proofs.Bools.{cond-elim, by-cases}
 use Rattle.model.specs.Records.{Level, Point, State, empty, level, fresh, slotless}
 use Rattle.model.specs.Merge.{release, merged, joined}
-use Rattle.model.specs.Steps.{Work, Write, put, delete, delete-range, single, begin, merge-state, merge-level, merge-all, displaced, enter-at, enter, set-points, wipe, act-deepest, crowded, make-room, full, write, buffer-due, due, pass-buffer, pass-level, pass, still-due}
+use Rattle.model.specs.Steps.{Work, Write, put, delete, delete-range, single, begin, merge-state, merge-level, merge-all, displaced, enter-at, enter, set-points}
+use Rattle.model.specs.Steps.{wipe, act-deepest, crowded, make-room, full, write, buffer-due, due, pass-buffer, pass-level, pass, still-due}
 use Rattle.model.specs.Calls.{Op, written, flush, tick, Call, Outcome, early-refusal, timed, prepared, out-of-slots, finish, step, run}
 use Rattle.model.specs.Renaming.{map-level}
 use Rattle.model.proofs.Keeps.{has-room}

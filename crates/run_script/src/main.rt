@@ -80,7 +80,8 @@ fn serve(
     output: &mut [u8],
 ) -> Served
     requires { ⌜ Serving (now entries) (now levels) (now line) (now input) (now output) begun ⌝ }
-    ensures { λ r. ⌜ Run (stands (now (entries .entry)) (now (levels .entry)) (now (line .entry)) (now (output .entry)) begun) (stands (now (entries .exit)) (now (levels .exit)) (now (line .exit)) (now (output .exit)) r) ⌝ }
+    ensures { λ r. ⌜ Run (stands (now (entries .entry)) (now (levels .entry)) (now (line .entry)) (now (output .entry)) begun)
+        (stands (now (entries .exit)) (now (levels .exit)) (now (line .exit)) (now (output .exit)) r) ⌝ }
 {
     let mut m = Served {
         slots: 0,
@@ -108,7 +109,8 @@ fn serve_block(
 ) -> Served
     requires { ⌜ Serving (now entries) (now levels) (now line) (now input) (now output) m ⌝ }
     ensures { λ r. ⌜ Serving (now (entries .exit)) (now (levels .exit)) (now (line .exit)) (now (input .exit)) (now (output .exit)) r ⌝ }
-    ensures { λ r. ⌜ Turn (now (input .exit)) (stands (now (entries .entry)) (now (levels .entry)) (now (line .entry)) (now (output .entry)) m) (stands (now (entries .exit)) (now (levels .exit)) (now (line .exit)) (now (output .exit)) r) (r .more) ⌝ }
+    ensures { λ r. ⌜ Turn (now (input .exit)) (stands (now (entries .entry)) (now (levels .entry)) (now (line .entry)) (now (output .entry)) m)
+        (stands (now (entries .exit)) (now (levels .exit)) (now (line .exit)) (now (output .exit)) r) (r .more) ⌝ }
 {
     let start = Progress {
         slots: m.slots,

@@ -32,7 +32,8 @@ pub fn take_byte(
 ) -> Progress
     requires { ⌜ Ready (now entries) (now levels) (now line) m ⌝ }
     requires { ⌜ m .waiting + 44 ≤ length (now output) ⌝ }
-    ensures { λ r. ⌜ standing (now (entries .exit)) (now (levels .exit)) (now (line .exit)) (now (output .exit)) r ≡ taken byte (standing (now (entries .entry)) (now (levels .entry)) (now (line .entry)) (now (output .entry)) m) ⌝ }
+    ensures { λ r. ⌜ standing (now (entries .exit)) (now (levels .exit)) (now (line .exit)) (now (output .exit)) r ≡
+        taken byte (standing (now (entries .entry)) (now (levels .entry)) (now (line .entry)) (now (output .entry)) m) ⌝ }
     ensures { λ r. ⌜ Ready (now (entries .exit)) (now (levels .exit)) (now (line .exit)) r ⌝ }
     ensures { λ r. ⌜ r .waiting ≤ m .waiting + 44 ⌝ }
 {
@@ -58,7 +59,8 @@ pub fn end_line(
 ) -> Progress
     requires { ⌜ Ready (now entries) (now levels) (now line) m ⌝ }
     requires { ⌜ m .waiting + 44 ≤ length (now output) ⌝ }
-    ensures { λ r. ⌜ standing (now (entries .exit)) (now (levels .exit)) (now (line .entry)) (now (output .exit)) r ≡ ended (standing (now (entries .entry)) (now (levels .entry)) (now (line .entry)) (now (output .entry)) m) ⌝ }
+    ensures { λ r. ⌜ standing (now (entries .exit)) (now (levels .exit)) (now (line .entry)) (now (output .exit)) r ≡
+        ended (standing (now (entries .entry)) (now (levels .entry)) (now (line .entry)) (now (output .entry)) m) ⌝ }
     ensures { λ r. ⌜ Ready (now (entries .exit)) (now (levels .exit)) (now (line .entry)) r ⌝ }
     ensures { λ r. ⌜ r .waiting ≤ m .waiting + 44 ⌝ }
 {

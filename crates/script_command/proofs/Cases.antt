@@ -5,7 +5,8 @@ use Rattle.settings.specs.Limits.{allowed, power, capacity, limit}
 use Rattle.model.specs.Records.{fresh}
 use Rattle.model.specs.Coverage.{over, covers}
 use Rattle.model.specs.Merge.{later, merged, settled, joined, freed}
-use Rattle.model.specs.Steps.{single, merge-state, merge-level, merge-all, enter-at, enter, set-points, wipe, act-deepest, crowded, make-room, full, write, no-slot, buffer-due, due, pass-buffer, pass-level, pass, still-due}
+use Rattle.model.specs.Steps.{single, merge-state, merge-level, merge-all, enter-at, enter, set-points, wipe, act-deepest, crowded}
+use Rattle.model.specs.Steps.{make-room, full, write, no-slot, buffer-due, due, pass-buffer, pass-level, pass, still-due}
 use Rattle.model.specs.Lookup.{latest, find, lookup-from}
 use Rattle.model.specs.Calls.{prepared, finish, step}
 use Rattle.tables.specs.Slots.{set-slot, slot-words}

@@ -39,7 +39,8 @@ pub record CaseTable : Type 0 where
   pub made-anew : prints no-store ("M 6 3 2 2 9" ∷ "P 5 7 70 0" ∷ "M 4 2 2 2 4" ∷ "G 7" ∷ "P 1 7 71 0" ∷ "G 7" ∷ [])
       ≡ three 0 0 0 ∷ three 0 0 0 ∷ three 0 0 0 ∷ four 0 0 0 0 ∷ three 0 0 0 ∷ four 0 1 71 0 ∷ []
   -- Request S-1: "covers a record only if its stamp is at most s", "10, s is 0 or after the call's clock"; without a date, "its own clock as s".
-  pub by-lay-date : prints no-store ("M 6 3 2 2 9" ∷ "P 3 5 50 0" ∷ "P 4 6 60 0" ∷ "Y 9 0 9 0" ∷ "Y 9 0 9 10" ∷ "Y 9 0 9 3" ∷ "G 5" ∷ "G 6" ∷ "F 9" ∷ "G 6" ∷ "P 9 7 70 0" ∷ "R 9 0 9" ∷ "G 6" ∷ "G 7" ∷ [])
+  pub by-lay-date : prints no-store ("M 6 3 2 2 9" ∷ "P 3 5 50 0" ∷ "P 4 6 60 0" ∷ "Y 9 0 9 0" ∷ "Y 9 0 9 10" ∷ "Y 9 0 9 3" ∷
+      "G 5" ∷ "G 6" ∷ "F 9" ∷ "G 6" ∷ "P 9 7 70 0" ∷ "R 9 0 9" ∷ "G 6" ∷ "G 7" ∷ [])
       ≡ three 0 0 0 ∷ three 0 0 0 ∷ three 0 1 0 ∷ three 10 0 0 ∷ three 10 0 0 ∷ three 0 0 0 ∷ four 0 0 0 0 ∷ four 0 1 60 0 ∷ three 0 1 1 ∷ four 0 1 60 0
       ∷ three 0 0 0 ∷ three 0 0 1 ∷ four 0 0 0 0 ∷ four 0 0 0 0 ∷ []
   -- Request S-2: "`P` lines take the price last; `G` lines print it as a fourth number", a refused one too.

@@ -86,7 +86,8 @@ pub fn run_make(
     term: u32,
 ) -> Turn
     requires { ⌜ Fits (now entries) (now levels) size ⌝ }
-    ensures { λ r. ⌜ stepped (now (entries .exit)) (now (levels .exit)) r ≡ makes slots (record { deepest = deepest; ratio = ratio; buffer = buffer; term = term }) (memory (now (entries .entry)) (now (levels .entry)) size) ⌝ }
+    ensures { λ r. ⌜ stepped (now (entries .exit)) (now (levels .exit)) r ≡
+        makes slots (record { deepest = deepest; ratio = ratio; buffer = buffer; term = term }) (memory (now (entries .entry)) (now (levels .entry)) size) ⌝ }
 {
     if MOST_SLOTS < slots {
         return alone(refusals::LINE, size);

@@ -19,7 +19,8 @@ pub fn feed(
 ) -> Progress
     requires { ⌜ Ready (now entries) (now levels) (now line) start ⌝ }
     requires { ⌜ start .waiting + 44 * length (now block) ≤ length (now output) ⌝ }
-    ensures { λ r. ⌜ standing (now (entries .exit)) (now (levels .exit)) (now (line .exit)) (now (output .exit)) r ≡ fed (now (block .entry)) (standing (now (entries .entry)) (now (levels .entry)) (now (line .entry)) (now (output .entry)) start) ⌝ }
+    ensures { λ r. ⌜ standing (now (entries .exit)) (now (levels .exit)) (now (line .exit)) (now (output .exit)) r ≡
+        fed (now (block .entry)) (standing (now (entries .entry)) (now (levels .entry)) (now (line .entry)) (now (output .entry)) start) ⌝ }
     ensures { λ r. ⌜ Ready (now (entries .exit)) (now (levels .exit)) (now (line .exit)) r ⌝ }
     ensures { λ r. ⌜ r .waiting ≤ start .waiting + 44 * length (now (block .entry)) ⌝ }
 {
@@ -42,7 +43,8 @@ pub fn finish(
 ) -> Progress
     requires { ⌜ Ready (now entries) (now levels) (now line) m ⌝ }
     requires { ⌜ m .waiting + 44 ≤ length (now output) ⌝ }
-    ensures { λ r. ⌜ standing (now (entries .exit)) (now (levels .exit)) (now (line .entry)) (now (output .exit)) r ≡ finished (standing (now (entries .entry)) (now (levels .entry)) (now (line .entry)) (now (output .entry)) m) ⌝ }
+    ensures { λ r. ⌜ standing (now (entries .exit)) (now (levels .exit)) (now (line .entry)) (now (output .exit)) r ≡
+        finished (standing (now (entries .entry)) (now (levels .entry)) (now (line .entry)) (now (output .entry)) m) ⌝ }
     ensures { λ r. ⌜ Ready (now (entries .exit)) (now (levels .exit)) (now (line .entry)) r ⌝ }
     ensures { λ r. ⌜ r .waiting ≤ m .waiting + 44 ⌝ }
 {

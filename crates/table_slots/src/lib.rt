@@ -3,7 +3,8 @@ use model::Tally;
 ghost use mathlib.Core.Path.{_≡_};
 ghost use Prim.Native.Nat.{_<_, _≤_};
 ghost use lib.Dec.{leb};
-ghost use Rattle.tables.specs.Slots.{entry-length, slots-of, InTable, slot-at, set-slot, link-to, span-from, next-of, kind-of, span-of, lo-of, hi-of, tally-of, count-of, price-of, date-of, stamp-of, free-slot, top-slot, first-free, clock-of, with-link, with-clock, with-tally, with-date};
+ghost use Rattle.tables.specs.Slots.{entry-length, slots-of, InTable, slot-at, set-slot, link-to, span-from, next-of, kind-of, span-of, lo-of, hi-of, tally-of, count-of};
+ghost use Rattle.tables.specs.Slots.{price-of, date-of, stamp-of, free-slot, top-slot, first-free, clock-of, with-link, with-clock, with-tally, with-date};
 ghost use Rattle.tables.specs.Sound.{is-untallied, order-key, top-blank, entries-fit};
 
 // The kinds of records; a free slot has kind 0.

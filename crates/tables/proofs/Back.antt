@@ -13,7 +13,8 @@ use Rattle.model.specs.Merge.{point-slots, range-slots}
 use Rattle.tables.specs.Slots.{Slot, first-free, clock-of}
 use Rattle.tables.specs.Rows.{settings-of, Row, level-row}
 use Rattle.tables.specs.Sound.{chain-from}
-use Rattle.tables.specs.Placed.{Cell, free-cell, point-cell, range-cell, level-chains, all-chains, entry-words, level-words, row-of-level, read-point, read-range, read-level, read-levels, read-state, top-of, levels-as, state-as}
+use Rattle.tables.specs.Placed.{Cell, free-cell, point-cell, range-cell, level-chains, all-chains, entry-words, level-words, row-of-level}
+use Rattle.tables.specs.Placed.{read-point, read-range, read-level, read-levels, read-state, top-of, levels-as, state-as}
 use Rattle.tables.specs.Formed.{LevelFormed, levels-slots, Formed}
 use Rattle.tables.proofs.Cells.{Chained, AllChained, cell-slots, chain-slots, Holds, Slots, AllSlots, holds-one}
 use Rattle.tables.proofs.Once.{OnceFacts, once-facts, Inside, once-inside, once-most}

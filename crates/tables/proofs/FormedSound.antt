@@ -19,7 +19,8 @@ use Rattle.tables.specs.Slots.{slot-at, entry-length, slots-of, Slot, fi
 use Rattle.tables.specs.Rows.{level-length, settings-of, Row, level-row}
 use Rattle.tables.specs.Words.{Fits32}
 use Rattle.tables.specs.Sound.{free-chain, point-chain, range-chain, is-free, level-sound, levels-sound, record-slots, chains-sound, entries-fit, levels-fit, table-refusal}
-use Rattle.tables.specs.Placed.{cell-slot, free-cell, entry-kind, point-cell, range-cell, level-chains, all-chains, row-of-level, entry-words, level-words, read-level, read-state, top-of, state-as}
+use Rattle.tables.specs.Placed.{cell-slot, free-cell, entry-kind, point-cell, range-cell, level-chains, all-chains}
+use Rattle.tables.specs.Placed.{row-of-level, entry-words, level-words, read-level, read-state, top-of, state-as}
 use Rattle.tables.specs.Formed.{LevelFormed, levels-slots, Formed}
 use Rattle.tables.proofs.Cells.{Chained, AllChained, cell-slots, Holds}
 use Rattle.tables.proofs.Once.{once-facts, facts-once}

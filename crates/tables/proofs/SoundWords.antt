@@ -19,8 +19,10 @@ use Rattle.model.specs.Merge.{point-slots, range-slots}
 use Rattle.tables.specs.Slots.{entry-length, slots-of, slot-at, next-of, top-slot, first-free, clock-of}
 use Rattle.tables.specs.Rows.{level-length, settings-of, Row, level-row}
 use Rattle.tables.specs.Words.{Fits32}
-use Rattle.tables.specs.Sound.{chain-from, free-chain, point-chain, range-chain, is-free, level-sound, levels-sound, record-slots, every-slot-once, chains-sound, entries-fit, levels-fit, table-refusal, top-blank}
-use Rattle.tables.specs.Placed.{Cell, free-cell, point-cell, range-cell, head, level-chains, all-chains, row-of-level, entry-words, level-words, read-point, read-range, read-level, read-levels, read-state, cell-slot, top-of, levels-as, state-as}
+use Rattle.tables.specs.Sound.{chain-from, free-chain, point-chain, range-chain, is-free, level-sound, levels-sound, record-slots}
+use Rattle.tables.specs.Sound.{every-slot-once, chains-sound, entries-fit, levels-fit, table-refusal, top-blank}
+use Rattle.tables.specs.Placed.{Cell, free-cell, point-cell, range-cell, head, level-chains, all-chains, row-of-level, entry-words, level-words}
+use Rattle.tables.specs.Placed.{read-point, read-range, read-level, read-levels, read-state, cell-slot, top-of, levels-as, state-as}
 use Rattle.tables.specs.Formed.{LevelFormed, levels-slots, Formed}
 use Rattle.tables.proofs.Rows.{rows-equal, length-level-words, settings-back, level-row-at}
 use Rattle.tables.proofs.Cells.{Chained, AllChained, Holds}

@@ -29,7 +29,8 @@ returns : tie.Need-returns
 returns c =
     let left-out = c .before in
     let priced = left-out .before in
-    goes-out (priced .before .lookup .result) (c .pack-lookup .ensures ∙ ap packed (left-out .without-price .ensures)) (priced .price-of .ensures) ∙ ap packed-lookup (priced .before .lookup .ensures .0)
+    goes-out (priced .before .lookup .result)
+    (c .pack-lookup .ensures ∙ ap packed (left-out .without-price .ensures)) (priced .price-of .ensures) ∙ ap packed-lookup (priced .before .lookup .ensures .0)
 
 pub guontrem-lookup-spec : {M : Type 1} → statement M
 guontrem-lookup-spec = tie.close (tie.spec lookup-requires price-of-requires without-price-requires pack-lookup-requires returns)
