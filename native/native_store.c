@@ -152,11 +152,10 @@ static uint32_t merge_level(uint32_t *e, uint32_t *l, uint32_t i) {
 
 static uint64_t power(uint64_t t, uint32_t i) { return i == 0 ? 1 : t * power(t, i - 1); }
 
-static bool is_due(uint32_t *l, uint32_t i, uint32_t clock) {
-    const struct level *v = row(l, i);
-    if (l[2] * power(l[1], i) < v->held) return true;
-    uint64_t limit = (uint64_t)l[3] * (power(l[1], i) - 1) / (power(l[1], l[0] - 1) - 1);
-    return v->owed != 0 && limit <= clock - v->owed;
+/* Whether a level is due, T^i being carried down to it and T^(L-1) - 1 with it. */
+static bool is_due(const uint32_t *l, const struct level *v, uint64_t carried, uint64_t divisor, uint32_t clock) {
+    if (l[2] * carried < v->held) return true;
+    return v->owed != 0 && (uint64_t)l[3] * (carried - 1) / divisor <= clock - v->owed;
 }
 
 static uint32_t held_all(uint32_t *l) {
@@ -169,8 +168,11 @@ static struct native_answer refused(uint32_t number) { return (struct native_ans
 
 static struct native_answer finish(uint32_t *e, uint32_t *l, uint32_t clock, uint32_t before, uint32_t merges) {
     if (l[2] <= row(l, 0)->held) merges += merge_level(e, l, 0);
-    for (uint32_t i = 1; i < l[0]; i++)
-        if (is_due(l, i, clock)) merges += merge_level(e, l, i);
+    uint64_t carried = 1, divisor = power(l[1], l[0] - 1) - 1;
+    for (uint32_t i = 1; i < l[0]; i++) {
+        carried *= l[1];
+        if (is_due(l, row(l, i), carried, divisor, clock)) merges += merge_level(e, l, i);
+    }
     e[1] = clock;
     return (struct native_answer){0, merges, before - held_all(l)};
 }

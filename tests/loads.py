@@ -34,7 +34,7 @@ def reference_of(entries, levels):
 
 def random_settings(rng, n):
     l = rng.randint(2, 6)
-    return n, l, rng.randint(2, 10), rng.choice((1, 2, 3, 8, 64)), rng.choice((1, 2, 9, 40, 1000))
+    return n, l, rng.randint(2, 10), rng.choice((1, 2, 3, 8, 64)), rng.choice((1, 2, 9, 40, 1000, 3 * 10 ** 9, LARGEST))
 
 
 class RandomCalls:
@@ -46,7 +46,7 @@ class RandomCalls:
         self.spans, self.clocks = [], [1]
 
     def draw(self, clock):
-        t, (lo, hi) = max(0, clock + self.rng.choice(self.steps)), self.span()
+        t, (lo, hi) = min(LARGEST, max(0, clock + self.rng.choice(self.steps))), self.span()
         self.spans.append((lo, hi))
         self.clocks.append(t)
         odd = self.rng.random()

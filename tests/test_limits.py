@@ -18,7 +18,7 @@ class Limits(unittest.TestCase):
             else:
                 shown[settings].append(tuple(numbers))
         self.assertEqual(shown.pop((7, 2, 2, 9)), "refused 6")
-        self.assertEqual(len(shown), 5)
+        self.assertEqual(len(shown), 6)
         for (l, t, b, d), levels in shown.items():
             whole = t ** (l - 1) - 1
             self.assertEqual(levels, [(i, d * (t ** i - 1) // whole, b * t ** i) for i in range(1, l)])

@@ -1,5 +1,6 @@
 """The timed calls of the proved library: document 01's cases, long random lists against its steps written plainly, damaged tables,
 and twin runs in which one put carries another count or price, or all puts other prices."""
+import itertools
 import random
 import unittest
 
@@ -8,7 +9,7 @@ import reference
 import tables
 from cases import CASES
 from example import ENTRIES, LEVELS
-from loads import RandomCalls, damage, fresh_store, random_settings, random_tables, read_levels, reference_of, reprice
+from loads import LARGEST, RandomCalls, damage, fresh_store, random_settings, random_tables, read_levels, reference_of, reprice
 
 
 class Document01(unittest.TestCase):
@@ -65,6 +66,23 @@ class Random(unittest.TestCase):
                     self.assertEqual(store.lookup_count(docket), tables.without_price(store.lookup(docket)), note)
         self.assertEqual(set(met), {0, 4, 5, 7, 10}, f"seed {seed}: an outcome was not met")
         print(f"seed {seed}: {sum(met.values())} calls; " + ", ".join(f"{met[k]} answered {k}" for k in sorted(met)))
+
+    def test_each_limit_to_the_tick(self):
+        """A delete sinks level by level, at every L and T and at terms of every size: a tick before each limit, at it and after it."""
+        for l, t, d in itertools.product(range(2, 7), range(2, 11), (1, 9, 100, 10 ** 6, LARGEST - 1, LARGEST)):
+            settings = 6, l, t, 1, d
+            store, expected = fresh_store(*settings), reference.Store(*settings)
+            ticks = sorted({1 + expected.limit(i) + k for i in range(1, l) for k in (-1, 0, 1)})
+            for call in [("P", 1, 7, 70, 7), ("D", 1, 7)] + [("T", tick) for tick in ticks if 1 <= tick <= LARGEST]:
+                self.same(store, expected, call, f"{settings}: {call}")
+
+    def test_each_capacity_to_the_record(self):
+        """Puts fill level after level, at every T: the one that is too many for a level, and those before it."""
+        for l, t in itertools.product((2, 3, 4), range(2, 11)):
+            settings = 400, l, t, 1, 9
+            store, expected = fresh_store(*settings), reference.Store(*settings)
+            for docket in range(min(399, sum(t ** i + 1 for i in range(1, l)) + 1)):
+                self.same(store, expected, ("P", 1, docket, docket, 7), f"{settings}: {docket}")
 
     def test_any_tables(self):
         """Sound tables that no list of calls reaches, and damaged ones, which are refused and stay as they are."""

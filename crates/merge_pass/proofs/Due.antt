@@ -8,9 +8,9 @@ use lib.Dec.{leb}
 use lib.ListN.{getD}
 use borrow.Author.Tests.{lt-ltb, le-ltb, eq-eqb, ne-eqb}
 use Rattle.settings.specs.declared.Settings.{Settings}
+use Rattle.settings.specs.declared.LevelSettings.{LevelSettings}
 use Rattle.settings.specs.Limits.{capacity, limit}
-use Rattle.settings.specs.Checked.{inner}
-use Rattle.settings.proofs.Allowed.{inner-true}
+use Rattle.settings.specs.Carried.{Carried}
 use Rattle.model.specs.declared.Tally.{Tally}
 use Rattle.model.specs.Records.{Level, level}
 use Rattle.model.specs.Steps.{buffer-due, due}
@@ -18,7 +18,7 @@ use Rattle.tables.specs.Rows.{settings-of, Row, level-row}
 use Rattle.tables.specs.Placed.{row-of-level}
 use Rattle.merge_levels.specs.Laid.{Store, Laid}
 use Rattle.merge_pass.specs.Due.{due-row}
-use Rattle.merge_levels.proofs.Store.{laid-settings, laid-allowed, laid-row, laid-formed}
+use Rattle.merge_levels.proofs.Store.{laid-settings, laid-row, laid-formed}
 
 module _ (settings : Settings) (t i : ℕ) (r : Row) where
   pub due-over : capacity settings i < r .held → true ≡ due-row settings t i r
@@ -35,12 +35,6 @@ row-due : (settings : Settings) (t i : ℕ) (v : Level ℕ Tally) → due-row se
 unfolding due
 row-due settings t i v = refl
 
-pub laid-due : (g : Store) (e l : List ℕ) → Laid g e l → (t i : ℕ) → i ≤ g .state .settings .deepest
-    → due-row (settings-of l) t i (level-row l i) ≡ due (g .state .settings) t i (level i (g .state))
-laid-due g e l laid t i h =
-    ap (λ (s : Settings). due-row s t i (level-row l i)) (laid-settings g e l laid) ∙ ap (due-row (g .state .settings) t i) (laid-row g e l laid i h)
-    ∙ row-due (g .state .settings) t i (level i (g .state))
-
 module _ (g : Store) (e l : List ℕ) (laid : Laid g e l) where
   -- "if the buffer has B records or more"
   pub laid-buffer-due : buffer-due (g .state) ≡ leb (settings-of l .buffer) (level-row l 0 .held)
@@ -49,11 +43,17 @@ module _ (g : Store) (e l : List ℕ) (laid : Laid g e l) where
       sym (ap (λ (s : Settings). leb (s .buffer) (level-row l 0 .held)) (laid-settings g e l laid)
       ∙ ap (λ (r : Row). leb (g .state .settings .buffer) (r .held)) (laid-row g e l laid 0 (omega arith)))
 
-  -- What the test asks of a level: that it has a capacity and a limit, and owes from no later than the clock.
-  pub laid-inner : (i : ℕ) → 1 ≤ i → i < g .state .settings .deepest → inner (settings-of l) i ≡ true
-  laid-inner i low high =
-      ap (λ (s : Settings). inner s i) (laid-settings g e l laid)
-      ∙ inner-true (g .state .settings) i (record { settings = laid-allowed g e l laid; level-low = low; level-high = high })
+  -- What is carried to a level, in the store's settings, tells whether that level is due.
+  module _ (at : LevelSettings) (carried : Carried at) (same : g .state .settings ≡ at .settings) where
+    pub laid-above : at .level < g .state .settings .deepest
+    laid-above = omega (arith, carried .above, ap (λ (s : Settings). s .deepest) same)
 
+    pub laid-due : (t : ℕ) → due-row (at .settings) t (at .level) (level-row l (at .level)) ≡ due (g .state .settings) t (at .level) (level (at .level) (g .state))
+    laid-due t =
+        ap (λ (s : Settings). due-row s t (at .level) (level-row l (at .level))) (sym same)
+        ∙ ap (due-row (g .state .settings) t (at .level)) (laid-row g e l laid (at .level) (omega (arith, laid-above)))
+        ∙ row-due (g .state .settings) t (at .level) (level (at .level) (g .state))
+
+  -- Owed is no later than the clock.
   pub laid-owed : (i : ℕ) → i ≤ g .state .settings .deepest → level-row l i .owed ≤ g .time
   laid-owed i h = omega (arith, ap (λ (r : Row). r .owed) (laid-row g e l laid i h), laid-formed g e l laid i .owed-clock)

@@ -10,7 +10,7 @@ use Rattle.model.specs.Steps.{Work, begin, merge-level, buffer-due, due, pass-b
 use Rattle.model.proofs.Counted.{pass-level-adds}
 use Rattle.model.proofs.Numbers.{pass-buffer-merges, pass-level-merges}
 use Rattle.merge_levels.specs.Laid.{Store, Laid, Worked}
-use Rattle.merge_levels.proofs.Turns.{Counts, merge-counts, Reached}
+use Rattle.merge_levels.proofs.Turns.{Step, Counts, merge-counts, Reached}
 
 -- A level that is merged if a test holds: what follows where it fails, and where it holds.
 module _ (test : Bool) (i : ℕ) (g : Store) (e l : List ℕ) where
@@ -67,3 +67,8 @@ pass-begun t g e l merges h w = record {
   here = h;
   leads = refl;
 }
+
+-- The same level by another name.
+pub reached-as : {step : Step} {goal : Work ℕ Tally} {g : Store} {e l : List ℕ} {merges i j : ℕ} → j ≡ i → Reached step goal g e l merges i
+    → Reached step goal g e l merges j
+reached-as q w = rw q w

@@ -1,48 +1,28 @@
 // The pass: the buffer merged where it is full, then each level from 1 to L−1 that is over its capacity or its limit.
 use merge_levels::merge_level;
-use table_levels::deepest_of;
+use settings::LevelSettings;
 use table_levels::level_at;
 use table_levels::settings_of;
 ghost use mathlib.Core.Path.{_≡_};
-ghost use mathlib.Core.Bool.{true};
-ghost use Prim.Native.Nat.{_+_, _*_, _<_, _≤_};
-ghost use lib.ListN.{length};
-ghost use Rattle.settings.specs.Checked.{inner};
-ghost use Rattle.tables.specs.Rows.{InRows, settings-of, level-row};
-ghost use Rattle.merge_pass.specs.Due.{due-row};
+ghost use Prim.Native.Nat.{_<_, _≤_};
 ghost use Rattle.lists.specs.All.{Exists};
+ghost use Rattle.settings.specs.Carried.{Carried};
 ghost use Rattle.model.specs.Steps.{begin, pass-buffer, pass-level, pass};
+ghost use Rattle.tables.specs.Rows.{InRows, level-row};
 ghost use Rattle.merge_levels.specs.Laid.{Store, Laid, Worked};
-
-// Whether level i has more than its capacity, or has owed for its limit.
-pub fn is_due(l: &[u32], clock: u32, i: usize) -> bool
-    requires { ⌜ InRows (now l) i ⌝ }
-    requires { ⌜ inner (settings-of (now l)) i ≡ true ⌝ }
-    requires { ⌜ level-row (now l) i .owed ≤ clock ⌝ }
-    ensures { λ r. ⌜ r ≡ due-row (settings-of (now (l .entry))) clock i (level-row (now (l .entry)) i) ⌝ }
-{
-    let settings = settings_of(l);
-    let level = level_at(l, i);
-    if settings.inner_capacity(i as u32) < level.held as u64 {
-        return true;
-    }
-    if level.owed == 0 {
-        return false;
-    }
-    settings.inner_limit(i as u32) <= (clock - level.owed) as u64
-}
+ghost use Rattle.merge_pass.specs.Due.{due-row};
 
 // The whole pass; how many merges it counts.
 pub fn pass(e: &mut [u32], l: &mut [u32], clock: u32) -> u32
     requires { ⌜ Exists (λ g. Laid g (now e) (now l) × (g .time ≡ clock)) ⌝ }
     ensures { λ r. ⌜ ((g : Store) → Laid g (now (e .entry)) (now (l .entry)) → g .time ≡ clock → Worked g (pass clock (begin (g .state))) (now (e .exit)) (now (l .exit)) r) ⌝ }
 {
-    let deepest = deepest_of(l);
+    let settings = settings_of(l);
     let mut merges = pass_buffer(e, l);
-    let mut i = 1;
-    while i < deepest {
-        merges += pass_level(e, l, clock, i);
-        i += 1;
+    let mut at = settings.at_level(0);
+    while at.level + 1 < settings.deepest {
+        at = at.next();
+        merges += pass_level(e, l, clock, at);
     }
     merges
 }
@@ -59,14 +39,32 @@ fn pass_buffer(e: &mut [u32], l: &mut [u32]) -> u32
     merge_level(e, l, 0)
 }
 
-// Level i merged if it is due.
-fn pass_level(e: &mut [u32], l: &mut [u32], clock: u32, i: usize) -> u32
-    requires { ⌜ Exists (λ g. Laid g (now e) (now l) × (g .time ≡ clock) × (1 ≤ i) × (i < g .state .settings .deepest)) ⌝ }
-    ensures { λ r. ⌜ ((g : Store) → Laid g (now (e .entry)) (now (l .entry)) → g .time ≡ clock → 1 ≤ i → i < g .state .settings .deepest
-        → Worked g (pass-level clock i (begin (g .state))) (now (e .exit)) (now (l .exit)) r) ⌝ }
+// A level merged if it is due.
+fn pass_level(e: &mut [u32], l: &mut [u32], clock: u32, at: LevelSettings) -> u32
+    requires { ⌜ Carried at ⌝ }
+    requires { ⌜ Exists (λ g. Laid g (now e) (now l) × (g .time ≡ clock) × (g .state .settings ≡ at .settings)) ⌝ }
+    ensures { λ r. ⌜ ((g : Store) → Laid g (now (e .entry)) (now (l .entry)) → g .time ≡ clock → g .state .settings ≡ at .settings
+        → Worked g (pass-level clock (at .level) (begin (g .state))) (now (e .exit)) (now (l .exit)) r) ⌝ }
 {
-    if !is_due(l, clock, i) {
+    if !is_due(l, clock, at) {
         return 0;
     }
-    merge_level(e, l, i)
+    merge_level(e, l, at.level as usize)
+}
+
+// Whether a level has more than its capacity, or has owed for its limit.
+fn is_due(l: &[u32], clock: u32, at: LevelSettings) -> bool
+    requires { ⌜ Carried at ⌝ }
+    requires { ⌜ InRows (now l) (at .level) ⌝ }
+    requires { ⌜ level-row (now l) (at .level) .owed ≤ clock ⌝ }
+    ensures { λ r. ⌜ r ≡ due-row (at .settings) clock (at .level) (level-row (now (l .entry)) (at .level)) ⌝ }
+{
+    let row = level_at(l, at.level as usize);
+    if at.capacity() < row.held as u64 {
+        return true;
+    }
+    if row.owed == 0 {
+        return false;
+    }
+    at.limit() <= (clock - row.owed) as u64
 }

@@ -5,6 +5,7 @@ use mathlib.Core.List.{List, [], _∷_, _++_, map}
 use Prim.Native.Nat.{ℕ, _≤_}
 use Rattle.settings.specs.declared.Settings.{Settings}
 use Rattle.settings.specs.Limits.{limit}
+use Rattle.settings.specs.Carried.{at-level}
 use Rattle.model.specs.declared.Tally.{Tally}
 use Rattle.model.specs.Records.{value, tombstone, Point, Range, Level, State, empty, level, slotless}
 use Rattle.model.specs.Steps.{put, delete, delete-range, merge-state}
@@ -106,6 +107,13 @@ pub record CaseTable : Type 0 where
   -- Request S-2: the price is put, and put anew, with the count; on level L "a put changes tally and stamp of its docket", price and count.
   pub priced : map (lookup (run hall (P 1 7 70 5 ∷ P 1 8 80 0 ∷ P 2 7 70 6 ∷ []) .levels)) (7 ∷ 8 ∷ []) ≡ found (tally 70 6) 2 ∷ found (tally 80 0) 1 ∷ []
   pub priced-anew : lookup (run (store 1 (settings 2 2 1 4)) (P 1 5 50 3 ∷ P 2 5 50 4 ∷ []) .levels) 5 ≡ found (tally 50 4) 2
+  -- Request S-3: what is carried to level 2, "the power carried is T^i"; D × (T^i − 1) passes 32 bits, in the limits and in a pass.
+  pub carried-4-4-100 : at-level (settings 4 4 8 100) 2 ≡ record { settings = settings 4 4 8 100; level = 2; power = 16; divisor = 63 }
+  pub limits-6-10-most :
+      limits (settings 6 10 64 4294967295) (1 ∷ 2 ∷ 3 ∷ 4 ∷ 5 ∷ []) ≡ 386550 ∷ 4252060 ∷ 42907152 ∷ 429458074 ∷ 4294967295 ∷ []
+  pub long-term :
+      answers (store 6 (settings 3 10 2 4294967295)) (D 1 7 ∷ F 1 ∷ T 390451572 ∷ T 390451573 ∷ [])
+      ≡ accepts 0 0 ∷ accepts 1 0 ∷ accepts 0 0 ∷ accepts 1 0 ∷ []
   -- The script and its output, lookups apart; "each `P` line now ends with price 0 and both `G` lines print a fourth 0".
   pub script :
       answers hall (noon ++ T 5 ∷ T 11 ∷ F 10 ∷ [])

@@ -4,4 +4,5 @@ pub mod Answers
 pub mod Powers
 pub mod Capacities
 pub mod Limits
+pub mod Carried
 pub mod Facts

@@ -5,6 +5,7 @@ use native.Mathlib.Nat.{le-trans, le-div-iff-mul-le, div-mul-le-self, mul-div-ca
 use native.Mathlib.Omega.{arith}
 use Rattle.settings.specs.declared.Settings.{Settings}
 use Rattle.settings.specs.Limits.{power, limit}
+use Rattle.settings.specs.Carried.{share}
 use Rattle.settings.proofs.Allowed.{Allowed}
 use Rattle.settings.proofs.Powers.{power-mono, power-two, power-fits}
 
@@ -17,7 +18,7 @@ div-mono n {a} {b} p h = le-div-iff-mul-le p .1 (le-trans (div-mul-le-self a n) 
 
 module _ (s : Settings) (two : 2 ≤ s .ratio) (deep : 2 ≤ s .deepest) where
   -- The divisor is never 0.
-  pub limit-divisor : 1 ≤ power s (s .deepest - 1) - 1
+  pub limit-divisor : 1 ≤ share s (s .deepest - 1)
   limit-divisor = omega (arith, power-two s two (s .deepest - 1) (omega arith))
 
   -- "So the limit of level L−1 is D."
@@ -40,8 +41,8 @@ module _ (s : Settings) (two : 2 ≤ s .ratio) (deep : 2 ≤ s .deepest) where
   unfolding limit power
   limit-raise d e h i = div-mono _ limit-divisor (mul-le-mul-right _ h)
 
-module _ (s : Settings) (a : Allowed s) (i : ℕ) (h : i < s .deepest) where
+module _ (s : Settings) (a : Allowed s) (i : ℕ) (h : i ≤ s .deepest) where
   -- The product that is divided fits 64 bits.
-  pub limit-product-fits : s .term * (power s i - 1) ≤ 4294967295 * 100000
+  pub limit-product-fits : s .term * share s i ≤ 4294967295 * 1000000
   limit-product-fits =
-      mul-le-mul {n₂ = 4294967295} {m₂ = 100000} (a .term-high) (omega (arith, power-fits s a i h))
+      mul-le-mul {n₂ = 4294967295} {m₂ = 1000000} (a .term-high) (omega (arith, power-fits s a i h))

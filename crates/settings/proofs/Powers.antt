@@ -1,6 +1,6 @@
 -- The laws of T^i, which the capacities and the limits lean on.
 use mathlib.Core.Path.{_≡_}
-use Prim.Native.Nat.{ℕ, _+_, _*_, _≤_, _<_}
+use Prim.Native.Nat.{ℕ, _+_, _*_, _≤_}
 use native.Mathlib.Nat.{le-trans, pow-zero, pow-suc, pow-le-pow-left, pow-le-pow-right}
 use native.Mathlib.Numerals.{add-one}
 use native.Mathlib.Omega.{arith}
@@ -31,9 +31,9 @@ module _ (s : Settings) (two : 2 ≤ s .ratio) where
       first : power s 1 ≡ s .ratio
       first = rw (power-next s 0, power-none) (omega arith)
 
--- Within the ranges no power of an inner level passes 10^5.
-pub power-fits : (s : Settings) → Allowed s → (i : ℕ) → i < s .deepest → power s i ≤ 100000
+-- Within the ranges no power of a level passes 10^6.
+pub power-fits : (s : Settings) → Allowed s → (i : ℕ) → i ≤ s .deepest → power s i ≤ 1000000
 unfolding power
 power-fits s a i h =
     le-trans (pow-le-pow-left (a .ratio-high) i)
-    (pow-le-pow-right {n = 10} (lit< tt) {i = i} {j = 5} (omega arith))
+    (pow-le-pow-right {n = 10} (lit< tt) {i = i} {j = 6} (omega arith))

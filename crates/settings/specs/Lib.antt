@@ -1,3 +1,4 @@
--- Document 01, "Settings and limits".
+-- Document 01, "Settings and limits"; request S-3.
 pub mod Limits
 pub mod Checked
+pub mod Carried

@@ -1,8 +1,10 @@
 // The settings of a store, checked once, and each level's limit and capacity worked out from them.
 ghost use mathlib.Core.Path.{_≡_};
 ghost use mathlib.Core.Bool.{true};
+ghost use Prim.Native.Nat.{_+_, _≤_, _<_};
 ghost use Rattle.settings.specs.Limits.{within, allowed, power, capacity, limit};
 ghost use Rattle.settings.specs.Checked.{checkedOf, inner, limitOf, capacityOf};
+ghost use Rattle.settings.specs.Carried.{at-level, Carried};
 
 // Document 01's ranges of L, T, B and D.
 const DEEPEST_LOW: u32 = 2;
@@ -27,6 +29,16 @@ pub struct Settings {
     pub ratio: u32,
     pub buffer: u32,
     pub term: u32,
+}
+
+// The settings at a level: what is carried down to it, so that its limit and its capacity take one multiplication.
+pub struct LevelSettings {
+    pub settings: Settings,
+    pub level: u32,
+    // T^i.
+    pub power: u64,
+    // T^(L−1) − 1, of every limit.
+    pub divisor: u64,
 }
 
 // The settings, or the number of the refusal.
@@ -74,7 +86,7 @@ impl Settings {
         if !self.is_inner(level) {
             return Bound::Nothing;
         }
-        Bound::Is(self.inner_limit(level))
+        Bound::Is(self.at_level(level).limit())
     }
 
     // A level's capacity in records, where it has one.
@@ -84,26 +96,22 @@ impl Settings {
         if !self.is_inner(level) {
             return Bound::Nothing;
         }
-        Bound::Is(self.inner_capacity(level))
+        Bound::Is(self.at_level(level).capacity())
     }
 
-    // The plain number, for callers that know that the level has a limit.
-    pub fn inner_limit(self, level: u32) -> u64
-        requires { ⌜ inner self level ≡ true ⌝ }
-        ensures { λ r. ⌜ r ≡ limit self level ⌝ }
+    // What is carried down to a level; from there on the next one's is `next`.
+    pub fn at_level(self, level: u32) -> LevelSettings
+        requires { ⌜ allowed self ≡ true ⌝ }
+        requires { ⌜ level < self .deepest ⌝ }
+        ensures { λ r. ⌜ r ≡ at-level self level ⌝ }
     {
-        let share = self.power(level);
-        let whole = self.power(self.deepest - 1);
-        // In 64 bits, since D × (T^i − 1) can pass 32.
-        self.term as u64 * (share - 1) / (whole - 1)
-    }
-
-    // The plain number, for callers that know that the level has a capacity.
-    pub fn inner_capacity(self, level: u32) -> u64
-        requires { ⌜ inner self level ≡ true ⌝ }
-        ensures { λ r. ⌜ r ≡ capacity self level ⌝ }
-    {
-        self.buffer as u64 * self.power(level)
+        let last = self.power(self.deepest - 1);
+        LevelSettings {
+            settings: self,
+            level: level,
+            power: self.power(level),
+            divisor: last - 1,
+        }
     }
 
     fn is_allowed(self) -> bool
@@ -131,9 +139,10 @@ impl Settings {
         in_range(1, level, self.deepest - 1)
     }
 
-    // T^i; an inner level is shallow enough that no product wraps.
+    // T^i; a level is shallow enough that no product wraps.
     fn power(self, i: u32) -> u64
-        requires { ⌜ inner self i ≡ true ⌝ }
+        requires { ⌜ allowed self ≡ true ⌝ }
+        requires { ⌜ i ≤ self .deepest ⌝ }
         ensures { λ r. ⌜ r ≡ power self i ⌝ }
     {
         let mut p = 1u64;
@@ -143,5 +152,40 @@ impl Settings {
             k += 1;
         }
         p
+    }
+}
+
+impl LevelSettings {
+    // One level further down: multiplied once.
+    pub fn next(self) -> LevelSettings
+        requires { ⌜ Carried self ⌝ }
+        requires { ⌜ self .level + 1 < self .settings .deepest ⌝ }
+        ensures { λ r. ⌜ r ≡ at-level (self .settings) (self .level + 1) ⌝ }
+    {
+        let settings = self.settings;
+        let power = self.power * settings.ratio as u64;
+        LevelSettings {
+            settings: settings,
+            level: self.level + 1,
+            power: power,
+            divisor: self.divisor,
+        }
+    }
+
+    pub fn limit(self) -> u64
+        requires { ⌜ Carried self ⌝ }
+        ensures { λ r. ⌜ r ≡ limit (self .settings) (self .level) ⌝ }
+    {
+        let share = self.power - 1;
+        // In 64 bits, since D × (T^i − 1) can pass 32.
+        let product = self.settings.term as u64 * share;
+        product / self.divisor
+    }
+
+    pub fn capacity(self) -> u64
+        requires { ⌜ Carried self ⌝ }
+        ensures { λ r. ⌜ r ≡ capacity (self .settings) (self .level) ⌝ }
+    {
+        self.settings.buffer as u64 * self.power
     }
 }

@@ -5,7 +5,7 @@ use native.Mathlib.Nat.{le-antisymm}
 use native.Mathlib.Omega.{arith}
 use borrow.Author.Needs.{needs}
 use Rattle.settings.specs.Limits.{power}
-use Rattle.settings.proofs.Allowed.{inner-bounds}
+use Rattle.settings.proofs.Allowed.{allowed-bounds}
 use Rattle.settings.proofs.Powers.{power-none, power-next, power-fits}
 use Rattle.settings.proofs.Settings.power.Statement.{statement}
 use Rattle.settings.proofs.Settings.power.Tie as tie
@@ -32,9 +32,8 @@ mul-p : tie.Need-mul-p Inv-loop μ-loop
 mul-p c =
     let start = c .before .before .before in
     let s = start .args .self in
-    let n = inner-bounds s (start .args .i) (start .pre) in
     let k = c .before .before .loop .k in
-    omega (arith, loop-again c .1, power-fits s (n .settings) (k + 1) (omega arith))
+    omega (arith, loop-again c .1, power-fits s (allowed-bounds s (start .pre .0)) (k + 1) (omega (arith, start .pre .1)))
 
 add-k : tie.Need-add-k Inv-loop μ-loop
 add-k c = search needs
