@@ -31,13 +31,11 @@ pub struct Settings {
     pub term: u32,
 }
 
-// The settings at a level: what is carried down to it, so that its limit and its capacity take one multiplication.
+// The settings at a level, carried down from the level above: "the power carried" is T^i; T^(L−1) − 1 divides every limit.
 pub struct LevelSettings {
     pub settings: Settings,
     pub level: u32,
-    // T^i.
     pub power: u64,
-    // T^(L−1) − 1, of every limit.
     pub divisor: u64,
 }
 
@@ -99,7 +97,7 @@ impl Settings {
         Bound::Is(self.at_level(level).capacity())
     }
 
-    // What is carried down to a level; from there on the next one's is `next`.
+    // The settings at a level, worked out whole; those of the level below it are `next`.
     pub fn at_level(self, level: u32) -> LevelSettings
         requires { ⌜ allowed self ≡ true ⌝ }
         requires { ⌜ level < self .deepest ⌝ }
@@ -156,7 +154,7 @@ impl Settings {
 }
 
 impl LevelSettings {
-    // One level further down: multiplied once.
+    // The settings at the level below: multiplied once.
     pub fn next(self) -> LevelSettings
         requires { ⌜ Carried self ⌝ }
         requires { ⌜ self .level + 1 < self .settings .deepest ⌝ }
@@ -172,6 +170,7 @@ impl LevelSettings {
         }
     }
 
+    // The level's limit in ticks.
     pub fn limit(self) -> u64
         requires { ⌜ Carried self ⌝ }
         ensures { λ r. ⌜ r ≡ limit (self .settings) (self .level) ⌝ }
@@ -182,6 +181,7 @@ impl LevelSettings {
         product / self.divisor
     }
 
+    // The level's capacity in records.
     pub fn capacity(self) -> u64
         requires { ⌜ Carried self ⌝ }
         ensures { λ r. ⌜ r ≡ capacity (self .settings) (self .level) ⌝ }
