@@ -1,5 +1,6 @@
 -- `settings::LevelSettings::limit`: the product fits 64 bits, and the divisor carried is not 0.
 use native.Mathlib.Omega.{arith}
+use borrow.Author.Needs.{needs}
 use Rattle.settings.proofs.Carried.{carried-limit, carried-power-fits, carried-product-fits, carried-divides}
 use Rattle.settings.proofs.LevelSettings.limit.Statement.{statement}
 use Rattle.settings.proofs.LevelSettings.limit.Tie as tie
@@ -11,11 +12,11 @@ entry c = c .before .before
 sub-share : tie.Need-sub-share
 sub-share c = omega (arith, carried-power-fits (c .before .args .self) (c .before .pre))
 
-cast-product : tie.Need-cast-product
-cast-product c = omega (arith, carried-power-fits (entry c .args .self) (entry c .pre))
-
 mul-product : tie.Need-mul-product
 mul-product c = omega (arith, carried-product-fits (entry c .args .self) (entry c .pre))
+
+cast-product : tie.Need-cast-product
+cast-product c = search needs
 
 div-result : tie.Need-div-result
 div-result c = omega (arith, carried-divides (entry (c .before) .args .self) (entry (c .before) .pre))
