@@ -15,7 +15,7 @@ static const struct load {
     enum shape shape;
 } loads[] = {
     {"mixed", mixed_calls, MIXED}, {"lookup", "G", MIXED}, {"grower's lookup", "g", MIXED}, {"delete-heavy", "PPPPPPPPPDDDDDDDDDTT", MIXED}, {"range-heavy", "PPPPPRRRRT", MIXED},
-    {"dated", "PPPPPPPPPPYYYYYYYWTT", MIXED},
+    {"dated", "PPPPPPPPPPYYYYYYYWTT", MIXED}, {"owing", "T", EVERY_LEVEL_OWES},
     {"full table", "PPPPPPPPDT", PUT_AT_RANDOM}, {"scan", "S", MIXED}, {"grower's scan", "s", MIXED}, {"check", "C", MIXED},
 };
 
@@ -23,8 +23,8 @@ static const struct size {
     uint32_t slots, calls, rounds;
 } sizes[] = {{10, 2000, 61}, {100, 2000, 61}, {1000, 1000, 41}, {4000, 400, 31}, {65535, 160, 15}};
 
-static uint32_t entries[2][GUONTREM_ENTRY_WORDS(GUONTREM_MAX_SLOTS)], levels[2][LEVEL_WORDS];
-static struct store before = {entries[0], levels[0], 0, LEVEL_WORDS}, work = {entries[1], levels[1], 0, LEVEL_WORDS};
+static uint32_t entries[2][GUONTREM_ENTRY_WORDS(GUONTREM_MAX_SLOTS)], levels[2][MOST_LEVEL_WORDS];
+static struct store before = {entries[0], levels[0], 0, 0}, work = {entries[1], levels[1], 0, 0};
 static struct call calls[MOST_CALLS];
 static struct guontrem_row rows[GUONTREM_MAX_SLOTS];
 static struct guontrem_count_row count_rows[GUONTREM_MAX_SLOTS];
@@ -32,7 +32,7 @@ static struct guontrem_count_row count_rows[GUONTREM_MAX_SLOTS];
 static void copy_tables(struct store *to, const struct store *from) {
     memcpy(to->entries, from->entries, from->entry_words * sizeof *from->entries);
     memcpy(to->levels, from->levels, from->level_words * sizeof *from->levels);
-    to->entry_words = from->entry_words;
+    to->entry_words = from->entry_words, to->level_words = from->level_words;
 }
 
 /* Microseconds a call; the answers and prices are added up so that both can be compared. */

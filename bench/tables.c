@@ -73,6 +73,15 @@ static void lay_pairs(struct store *s, uint32_t deepest, uint32_t slots, enum sh
     }
 }
 
+/* A range delete in each level from 1 to L-1, before every put, and puts in the deepest level. */
+static void lay_owing(struct store *s, uint32_t deepest, uint32_t slots) {
+    s->entries[0] = 0, s->entries[1] = 1;
+    for (uint32_t i = slots; i-- > 0;) {
+        if (i + 1 < deepest) lay_record(s, i + 1, i + 1, (struct record){RANGE_KIND, 0, 0, 1, 1, 0});
+        else lay_put(s, i + 1, deepest, (uint32_t)((uint64_t)i * 65536 / slots));
+    }
+}
+
 /* Dockets from 0 to live, in ascending order or at random. */
 static void put_all(struct store *s, uint32_t live, int ascending) {
     static uint32_t order[GUONTREM_MAX_SLOTS];
@@ -93,7 +102,8 @@ static uint32_t levels_of(enum shape shape) {
     case PUT_TWICE: return 2;
     case THREE_BY_TURNS: return 3;
     case SEVEN_BY_TURNS:
-    case SEVEN_AT_RANDOM: return 7;
+    case SEVEN_AT_RANDOM:
+    case EVERY_LEVEL_OWES: return 7;
     default: return 0;
     }
 }
@@ -102,7 +112,11 @@ uint32_t fill(struct store *s, enum shape shape, uint32_t slots) {
     uint32_t live = shape == MIXED ? (slots + 1) / 2 : slots, clock = 1, levels = levels_of(shape);
     uint32_t deepest = levels == MOST_LEVELS ? MOST_LEVELS - 1 : DEEPEST;
     s->entry_words = GUONTREM_ENTRY_WORDS(slots), s->level_words = GUONTREM_LEVEL_WORDS(deepest);
-    native_make(s->entries, s->entry_words, s->levels, s->level_words, deepest, RATIO, BUFFER, TERM);
+    native_make(s->entries, s->entry_words, s->levels, s->level_words, deepest, RATIO, BUFFER, shape == EVERY_LEVEL_OWES ? UINT32_MAX : TERM);
+    if (shape == EVERY_LEVEL_OWES) {
+        lay_owing(s, deepest, slots);
+        return clock;
+    }
     if (shape == RANGES_BETWEEN || shape == AND_ONE_WIDE || shape == PUT_TWICE) {
         lay_pairs(s, deepest, slots, shape);
         return s->entries[1];

@@ -16,7 +16,8 @@ enum {
 /* What tables hold: half the slots live and as many mixed calls as slots after that; every slot live, put at random or in ascending order;
    every slot live in some of the deepest levels, docket after docket by turns or at random, in the order of slots; live dockets in the
    deepest level, and in the level above it a range delete between each two, the same with a wide one of an earlier date over all, or the
-   same dockets once more. Seven levels need an L of 6, the others have one of 3. */
+   same dockets once more. Seven levels need an L of 6, the others have one of 3. Those before SHAPES are scanned too; in the last a range
+   delete stands in each level between the buffer and the deepest, none of them due, and what is live in the deepest. */
 enum shape {
     MIXED,
     PUT_AT_RANDOM,
@@ -29,7 +30,8 @@ enum shape {
     RANGES_BETWEEN,
     AND_ONE_WIDE,
     PUT_TWICE,
-    SHAPES
+    SHAPES,
+    EVERY_LEVEL_OWES
 };
 
 /* The calls of the mixed load, as letters of which one is drawn. */

@@ -76,9 +76,9 @@ pass-buffer-requires c κs =
 settings-are : (c : tie.After-settings-of Inv-loop μ-loop) (g : Store) → AtEntry (entry c) g → c .settings-of .result ≡ g .state .settings
 settings-are c g h = c .settings-of .ensures ∙ laid-settings g (entry c .args .e .now) (entry c .args .l .now) (h .0)
 
--- They are allowed, and level 0 is above L.
-top : (c : tie.After-settings-of Inv-loop μ-loop) → (allowed (c .settings-of .result) ≡ true) × (0 < c .settings-of .result .deepest)
-top c =
+-- They are allowed, so levels 0 and 1 are above L.
+shallow-enough : (c : tie.After-settings-of Inv-loop μ-loop) (i : ℕ) → i < 2 → (allowed (c .settings-of .result) ≡ true) × (i < c .settings-of .result .deepest)
+shallow-enough c i h =
     let start = entry c in
     let g = start .pre .value in
     let laid = start .pre .has .0 in
@@ -86,7 +86,7 @@ top c =
     (laid .formed .settings-ok, omega (arith, laid-allowed g (start .args .e .now) (start .args .l .now) laid))
 
 at-level-requires : tie.Need-at-level-requires Inv-loop μ-loop
-at-level-requires c κs = top (settings-read (buffered c))
+at-level-requires c κs = shallow-enough (settings-read (buffered c)) _ (omega arith)
 
 loop-holds : tie.Need-loop-holds Inv-loop μ-loop
 loop-holds c =
@@ -94,7 +94,7 @@ loop-holds c =
     let carried = c .at-level .ensures in (
       refl,
       refl,
-      carried-at (read .settings-of .result) 0 (top read) (c .at-level .result) carried,
+      carried-at (read .settings-of .result) _ (shallow-enough read _ (omega arith)) (c .at-level .result) carried,
       ap (λ (x : LevelSettings). x .settings) carried,
       λ g goal now same w. w,
     )
