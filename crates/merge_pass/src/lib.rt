@@ -4,7 +4,7 @@ use settings::LevelSettings;
 use table_levels::level_at;
 use table_levels::settings_of;
 ghost use mathlib.Core.Path.{_≡_};
-ghost use Prim.Native.Nat.{_<_, _≤_};
+ghost use Prim.Native.Nat.{_≤_};
 ghost use Rattle.lists.specs.All.{Exists};
 ghost use Rattle.settings.specs.Carried.{Carried};
 ghost use Rattle.model.specs.Steps.{begin, pass-buffer, pass-level, pass};
