@@ -77,7 +77,7 @@ class Random(unittest.TestCase):
                 self.same(store, expected, call, f"{settings}: {call}")
 
     def test_each_capacity_to_the_record(self):
-        """Puts fill level after level, at every T: the one that is too many for a level, and those before it."""
+        """Puts fill level after level: the one that is too many, and those before it, of levels 1 and 2 at every T and of level 3 up to T = 7."""
         for l, t in itertools.product((2, 3, 4), range(2, 11)):
             settings = 400, l, t, 1, 9
             store, expected = fresh_store(*settings), reference.Store(*settings)

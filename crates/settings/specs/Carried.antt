@@ -6,7 +6,7 @@ use Rattle.settings.specs.declared.Settings.{Settings}
 use Rattle.settings.specs.declared.LevelSettings.{LevelSettings}
 use Rattle.settings.specs.Limits.{allowed, power}
 
--- T^i − 1: a level's limit is the term times its own, divided by that of level L−1.
+-- Document 01's "(T^i − 1)": a level's limit is the term times its own, divided by that of level L−1.
 abbrev pub share : Settings → ℕ → ℕ
 share s i = power s i - 1
 
