@@ -73,11 +73,11 @@ static void lay_pairs(struct store *s, uint32_t deepest, uint32_t slots, enum sh
     }
 }
 
-/* A range delete in each level from 1 to L-1, before every put, and puts in the deepest level. */
+/* A range delete in each level from 0 to L-1, before every put, and puts in the deepest level. */
 static void lay_owing(struct store *s, uint32_t deepest, uint32_t slots) {
     s->entries[0] = 0, s->entries[1] = 1;
     for (uint32_t i = slots; i-- > 0;) {
-        if (i + 1 < deepest) lay_record(s, i + 1, i + 1, (struct record){RANGE_KIND, 0, 0, 1, 1, 0});
+        if (i < deepest) lay_record(s, i + 1, i, (struct record){RANGE_KIND, 0, 0, 1, 1, 0});
         else lay_put(s, i + 1, deepest, (uint32_t)((uint64_t)i * 65536 / slots));
     }
 }

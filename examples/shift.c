@@ -59,7 +59,6 @@ int main(void) {
     show("delete graded to 22 at 44", guontrem_store_delete_range_dated(&store, 44, 1000, 5999, 22));
     show_docket(5000);
     show_docket(5001);
-    show("flush at 45", guontrem_store_flush(&store, 45));
     show("tick at 50", guontrem_store_tick(&store, 50));
     show("tick at 90", guontrem_store_tick(&store, 90));
     show("tick at 80, refused", guontrem_store_tick(&store, 80));

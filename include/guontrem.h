@@ -32,10 +32,10 @@
 extern "C" {
 #endif
 
-/* The version, for `#if 10 <= GUONTREM_VERSION`. MAJOR is 0 until the first release; MINOR grows by one with every change that a caller
+/* The version, for `#if 11 <= GUONTREM_VERSION`. MAJOR is 0 until the first release; MINOR grows by one with every change that a caller
    can see: a name, an answer, a refusal or a word of the tables. */
 #define GUONTREM_VERSION_MAJOR 0
-#define GUONTREM_VERSION_MINOR 10
+#define GUONTREM_VERSION_MINOR 11
 #define GUONTREM_VERSION (1000 * GUONTREM_VERSION_MAJOR + GUONTREM_VERSION_MINOR)
 
 /* N, the slots: one record each. */
@@ -90,17 +90,17 @@ uint32_t guontrem_make(uint32_t *entries, size_t entry_words, uint32_t *levels, 
    Tables: as they were. */
 uint32_t guontrem_check(const uint32_t *entries, size_t entry_words, const uint32_t *levels, size_t level_words);
 
-/* The timed calls. Each begins with the check, does its own part and ends with the pass: the buffer is merged into level 1 if it
-   has B records, then each level from 1 to L-1 into the next if it is over its capacity or its limit of time. A record that a newer
-   one displaces goes in a merge and its slot is wiped.
+/* The timed calls. Each begins with the check, does its own part and ends with the pass: level after level, from the buffer to L-1, is
+   merged into the next if it has too many records (the buffer B, level i more than B * T^i) or has a delete that is as old as the level's
+   limit of time. A record that a newer one displaces goes in a merge and its slot is wiped.
    Answers a number to be read by guontrem_timed_refusal, guontrem_timed_merges and guontrem_timed_purged.
    Refusals: ENTRY_LENGTH, LEVEL_TABLE, UNSOUND, DOCKET (where dockets are given), CLOCK, DATE (where one is given), in this order;
    for a put then FULL.
    Tables: accepted, those of the store after the call, with its clock as the last. Refused: as they were; under FULL the levels
    are merged down, which no lookup and no scan can tell, and the last clock is as it was.
-   Erasure, in a store that guontrem_make made and only these calls changed: once a delete was accepted and has left the buffer (in
-   its own call or a later one), and a call D or more ticks after it was accepted, both tables are word for word what they would be
-   had an earlier put that the delete covers carried any other count or price. */
+   Erasure, in a store that guontrem_make made and only these calls changed: once a delete was accepted and a call D or more ticks after
+   it was accepted, both tables are word for word what they would be had an earlier put that the delete covers carried any other count
+   or price. */
 
 /* Puts a docket's count and price, in place of those it had. */
 uint64_t guontrem_put(uint32_t *entries, size_t entry_words, uint32_t *levels, size_t level_words,
@@ -119,7 +119,7 @@ uint64_t guontrem_delete_range(uint32_t *entries, size_t entry_words, uint32_t *
 uint64_t guontrem_delete_range_dated(uint32_t *entries, size_t entry_words, uint32_t *levels, size_t level_words,
                                      uint32_t clock, uint32_t lo, uint32_t hi, uint32_t date);
 
-/* Merges the buffer first, full or not, so that the term of the deletes in it is kept. */
+/* Merges the buffer first, full or not. The term needs no flush. */
 uint64_t guontrem_flush(uint32_t *entries, size_t entry_words, uint32_t *levels, size_t level_words, uint32_t clock);
 
 /* Does the pass alone, so that what has come due is merged. */

@@ -152,10 +152,11 @@ static uint32_t merge_level(uint32_t *e, uint32_t *l, uint32_t i) {
 
 static uint64_t power(uint64_t t, uint32_t i) { return i == 0 ? 1 : t * power(t, i - 1); }
 
-/* Whether a level is due, T^i being carried down to it and T^(L-1) - 1 with it. */
-static bool is_due(const uint32_t *l, const struct level *v, uint64_t carried, uint64_t divisor, uint32_t clock) {
-    if (l[2] * carried < v->held) return true;
-    return v->owed != 0 && (uint64_t)l[3] * (carried - 1) / divisor <= clock - v->owed;
+/* Whether level i is due: T^i is carried down to it, T^(i+1) is the level's below, and T^L - 1 divides every limit. */
+static bool is_due(uint32_t *l, uint32_t i, uint64_t carried, uint64_t below, uint64_t divisor, uint32_t clock) {
+    const struct level *v = row(l, i);
+    if (i == 0 ? l[2] <= v->held : l[2] * carried < v->held) return true;
+    return v->owed != 0 && (uint64_t)l[3] * (below - 1) / divisor <= clock - v->owed;
 }
 
 static uint32_t held_all(uint32_t *l) {
@@ -167,11 +168,10 @@ static uint32_t held_all(uint32_t *l) {
 static struct native_answer refused(uint32_t number) { return (struct native_answer){number, 0, 0}; }
 
 static struct native_answer finish(uint32_t *e, uint32_t *l, uint32_t clock, uint32_t before, uint32_t merges) {
-    if (l[2] <= row(l, 0)->held) merges += merge_level(e, l, 0);
-    uint64_t carried = 1, divisor = power(l[1], l[0] - 1) - 1;
-    for (uint32_t i = 1; i < l[0]; i++) {
-        carried *= l[1];
-        if (is_due(l, row(l, i), carried, divisor, clock)) merges += merge_level(e, l, i);
+    uint64_t carried = 1, below, divisor = power(l[1], l[0]) - 1;
+    for (uint32_t i = 0; i < l[0]; i++, carried = below) {
+        below = carried * l[1];
+        if (is_due(l, i, carried, below, divisor, clock)) merges += merge_level(e, l, i);
     }
     e[1] = clock;
     return (struct native_answer){0, merges, before - held_all(l)};

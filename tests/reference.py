@@ -1,4 +1,4 @@
-"""Document 01's steps with requests S-1 and S-2, written plainly: levels are lists of records, no tables and no chains."""
+"""Document 01's steps with requests S-1, S-2 and S-4, written plainly: levels are lists of records, no tables and no chains."""
 
 PUT, DELETE, RANGE = 1, 2, 3
 NO_TALLY = (0, 0)
@@ -24,11 +24,9 @@ class Store:
         self.clock = 0
         self.levels = [Level() for _ in range(l + 1)]
         self.merges = 0
-        # What became of the last call: it acted on level L directly; level 0 was merged before its pass, or in it.
-        self.direct = self.merged_before = self.merged_in_pass = False
 
     def limit(self, i):
-        return self.d * (self.t ** i - 1) // (self.t ** (self.l - 1) - 1)
+        return self.d * (self.t ** (i + 1) - 1) // (self.t ** self.l - 1)
 
     def capacity(self, i):
         return self.b * self.t ** i
@@ -66,19 +64,16 @@ class Store:
 
     def due(self, i, t):
         x = self.levels[i]
-        return x.held() > self.capacity(i) or (x.owed and t - x.owed >= self.limit(i))
+        full = x.held() > self.capacity(i) if i else x.held() >= self.b
+        return full or (x.owed and t - x.owed >= self.limit(i))
 
     def the_pass(self, t):
-        if self.levels[0].held() >= self.b:
-            self.merge(0)
-            self.merged_in_pass = True
-        for i in range(1, self.l):
+        for i in range(self.l):
             if self.due(i, t):
                 self.merge(i)
 
     def call(self, op, t, *args):
         """The answer: refusal, merges, purged."""
-        self.direct = self.merged_before = self.merged_in_pass = False
         if op in 'PD' and args[0] > 65535 or op in 'RY' and (args[1] > 65535 or args[0] > args[1]):
             return (4, 0, 0)
         if t == 0 or t < self.clock:
@@ -99,11 +94,12 @@ class Store:
                 w.owed = t
             b = self.levels[0]
             frees = any(self.goes(w, k, stamp) for k, (_, _, stamp) in b.points.items()) or any(r in b.ranges for r in w.ranges)
+            direct = False   # on level L
             if self.free() == 0 and not frees:
                 for i in range(self.l):
                     self.merge(i)
-                self.merged_before, self.direct = True, self.free() == 0
-            if self.direct:
+                direct = self.free() == 0
+            if direct:
                 deep = self.levels[self.l]
                 if op == 'P':
                     if args[0] not in deep.points:
@@ -115,7 +111,6 @@ class Store:
                 self.join(w, self.levels[0], False)
         elif op == 'F':
             self.merge(0)
-            self.merged_before = True
         self.the_pass(t)
         self.clock = t
         return (0, self.merges, before + written - self.held())

@@ -338,9 +338,10 @@ class Readme(unittest.TestCase):
         self.assertGreater(len(rows), 5)
         self.assertIn(" ".join(map(str, put[2:])), [printed[4:] for letter, _, printed in rows if letter == "G"], "the price of the line shown")
         told = " ".join(hall.split())
+        for level in (0, 1, 2):
+            self.assertIn(f"= {store.limit(level):,}", told)
         for level in (1, 2):
             self.assertIn(f"= {store.capacity(level)}", told)
-            self.assertIn(f"= {store.limit(level):,}", told)
 
 
 if __name__ == "__main__":

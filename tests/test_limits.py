@@ -20,8 +20,8 @@ class Limits(unittest.TestCase):
         self.assertEqual(shown.pop((7, 2, 2, 9)), "refused 6")
         self.assertEqual(len(shown), 6)
         for (l, t, b, d), levels in shown.items():
-            whole = t ** (l - 1) - 1
-            self.assertEqual(levels, [(i, d * (t ** i - 1) // whole, b * t ** i) for i in range(1, l)])
+            limits = [d * (t ** (i + 1) - 1) // (t ** l - 1) for i in range(l)]
+            self.assertEqual(levels, [(0, limits[0])] + [(i, limits[i], b * t ** i) for i in range(1, l)])
 
 
 if __name__ == "__main__":

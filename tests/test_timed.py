@@ -68,11 +68,11 @@ class Random(unittest.TestCase):
         print(f"seed {seed}: {sum(met.values())} calls; " + ", ".join(f"{met[k]} answered {k}" for k in sorted(met)))
 
     def test_each_limit_to_the_tick(self):
-        """A delete sinks level by level, at every L and T and at terms of every size: a tick before each limit, at it and after it."""
+        """A delete sinks level by level from the buffer on, at every L and T and at terms of every size: a tick before each limit, at it and after it."""
         for l, t, d in itertools.product(range(2, 7), range(2, 11), (1, 9, 100, 10 ** 6, LARGEST - 1, LARGEST)):
-            settings = 6, l, t, 1, d
+            settings = 6, l, t, 3, d
             store, expected = fresh_store(*settings), reference.Store(*settings)
-            ticks = sorted({1 + expected.limit(i) + k for i in range(1, l) for k in (-1, 0, 1)})
+            ticks = sorted({1 + expected.limit(i) + k for i in range(l) for k in (-1, 0, 1)})
             for call in [("P", 1, 7, 70, 7), ("D", 1, 7)] + [("T", tick) for tick in ticks if 1 <= tick <= LARGEST]:
                 self.same(store, expected, call, f"{settings}: {call}")
 
@@ -124,17 +124,14 @@ class Twins(unittest.TestCase):
         other, which = list(calls), rng.choice(("count", "price", "both"))
         other[chosen] = calls[chosen][:3] + (count ^ (which != "price") << rng.randrange(32), price ^ (which != "count") << rng.randrange(32))
         one, two, steps = fresh_store(*settings), fresh_store(*settings), reference.Store(*settings)
-        waiting, gone, differed, erased, dated = [], [], False, False, False
+        deletes, differed, erased, dated = [], False, False, False
         for i, (a, b) in enumerate(zip(calls, other)):
             answer = one.call(*a)
             self.assertEqual(answer, two.call(*b), note)
             self.assertEqual(answer, steps.call(*a), note)
-            # Merging before a delete's own entry does not count; a put refused 7 has merged the buffer too.
-            if steps.merged_before or steps.merged_in_pass:
-                gone, waiting = gone + waiting, []
             if answer[0] == 0 and i > chosen and covers(a, docket, clock):
-                (gone if steps.direct or steps.merged_in_pass else waiting).append(a)
-            due = [d for d in gone if answer[0] == 0 and a[1] - d[1] >= settings[4]]
+                deletes.append(a)
+            due = [d for d in deletes if answer[0] == 0 and a[1] - d[1] >= settings[4]]
             dated = dated or not erased and bool(due) and all(d[0] == "Y" and d[4] < d[1] for d in due)
             erased = erased or bool(due)
             same = one.words() == two.words()

@@ -7,12 +7,12 @@ use crate::{check, Found, Grower, Passed, Refusal, Row, Scanned, Settings, Tally
 ///
 /// A timed call ([`put`](Store::put), [`delete`](Store::delete), [`delete_range`](Store::delete_range),
 /// [`delete_range_dated`](Store::delete_range_dated), [`flush`](Store::flush), [`tick`](Store::tick)) ends with the pass, which merges
-/// each level that is over its capacity or its limit of time. A refused call leaves every word as it was; only [`Refusal::Full`]
-/// leaves the levels merged down, which no lookup and no scan can tell.
+/// each level, the buffer too, that has too many records or has a delete as old as its limit of time. A refused call leaves every word
+/// as it was; only [`Refusal::Full`] leaves the levels merged down, which no lookup and no scan can tell.
 ///
-/// Erasure, in a store that [`make`](Store::make) made and only these calls changed: once a delete was accepted and has left the buffer
-/// (in its own call or a later one), and a call at least the term after it was accepted, both tables are word for word what they would
-/// be had an earlier put that the delete covers carried any other count or price.
+/// Erasure, in a store that [`make`](Store::make) made and only these calls changed: once a delete was accepted and a call at least the
+/// term after it was accepted, both tables are word for word what they would be had an earlier put that the delete covers carried any
+/// other count or price.
 #[derive(Debug)]
 pub struct Store<'a> {
     entries: &'a mut [u32],
@@ -111,7 +111,7 @@ impl<'a> Store<'a> {
         answers::passed(unsafe { ffi::guontrem_delete_range_dated(e, ne, l, nl, clock, lo, hi, date) })
     }
 
-    /// Merges the buffer first, full or not, so that the term of the deletes in it is kept.
+    /// Merges the buffer first, full or not. The term needs no flush.
     ///
     /// Refusals, in this order: those of [`check`], [`Clock`](Refusal::Clock).
     pub fn flush(&mut self, clock: u32) -> Result<Passed, Refusal> {

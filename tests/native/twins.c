@@ -15,11 +15,6 @@
 /* Set in the chosen put's count and price alone: other tallies have none of these bits, and the last byte of any docket, slot, clock or term has not. */
 static const uint32_t marked_bits = 0x80808080, last_marked_docket = 0x7fff;
 
-/* The earliest accepted clock of a delete over the put that waits in the buffer, and of one that has left it; 0 for none. */
-struct fate {
-    uint32_t waiting, gone;
-};
-
 struct tally {
     uint32_t count, price;
 };
@@ -29,8 +24,8 @@ struct twins {
     struct pair steps;
     uint32_t docket, clock, term;
     struct tally tallies[2];
-    /* Of all deletes, and of those without an earlier date. */
-    struct fate deletes, undated;
+    /* The earliest accepted clock of a delete over the put, and of one without an earlier date; 0 for none. */
+    uint32_t deleted, undated;
     bool erased, dated, differed, seen;
 };
 
@@ -55,43 +50,18 @@ static bool covers(const struct call *c, uint32_t docket, uint32_t clock) {
     return c->lo <= docket && docket <= last_docket(c) && (c->kind != DELETE_RANGE_DATED || clock <= c->date);
 }
 
-/* "If no slot is free and the entry would free none in the buffer". */
-static bool is_crowded(const struct store *s, const struct call *c) {
-    const uint32_t *buffer = level_row(s, 0), *row;
-    if (s->entries[0] != 0) return false;
-    for (uint32_t at = buffer[0]; at != 0; at = row[0] & 65535) {
-        row = slot_row(s, at);
-        if (covers(c, row[1] & 65535, row[3])) return false;
-    }
-    for (uint32_t at = buffer[1]; is_range(c) && at != 0; at = row[0] & 65535) {
-        row = slot_row(s, at);
-        if (row[1] == (c->lo | c->hi << 16)) return false;
-    }
-    return true;
-}
-
 static uint32_t earlier(uint32_t a, uint32_t b) { return a == 0 || (b != 0 && b < a) ? b : a; }
 
-static void merge_buffer(struct fate *f) { f->gone = earlier(f->gone, f->waiting), f->waiting = 0; }
+static bool is_over(const struct twins *t, uint32_t deleted, uint32_t clock) { return deleted != 0 && t->term <= clock - deleted; }
 
-static void add_delete(struct fate *f, uint32_t clock, bool left) {
-    uint32_t *in = left ? &f->gone : &f->waiting;
-    *in = earlier(*in, clock);
-}
-
-static bool is_over(const struct twins *t, const struct fate *f, uint32_t clock) { return f->gone != 0 && t->term <= clock - f->gone; }
-
-/* What became of the deletes over the docket, by document 01's words. `merged` is whether the buffer was merged before an entry. */
-static void follow(struct twins *t, const struct call *c, uint32_t refusal, bool merged) {
-    bool erases = is_write(c) && c->kind != PUT && covers(c, t->docket, t->clock);
-    /* A delete in the buffer leaves a record there, so an empty buffer has been merged; a delete on level L leaves it empty too. */
-    bool empty = level_row(&t->steps.native, 0)[2] == 0;
-    if (merged || empty) merge_buffer(&t->deletes), merge_buffer(&t->undated);
-    if (refusal != 0) return;
-    if (erases) add_delete(&t->deletes, c->clock, empty);
-    if (erases && !(c->kind == DELETE_RANGE_DATED && c->date < c->clock)) add_delete(&t->undated, c->clock, empty);
-    if (t->erased || !is_over(t, &t->deletes, c->clock)) return;
-    t->erased = true, t->dated = !is_over(t, &t->undated, c->clock);
+/* Whether the put is erased once this call was accepted, and whether by deletes with an earlier date alone. */
+static void follow(struct twins *t, const struct call *c) {
+    if (is_write(c) && c->kind != PUT && covers(c, t->docket, t->clock)) {
+        t->deleted = earlier(t->deleted, c->clock);
+        if (c->kind != DELETE_RANGE_DATED || c->date == c->clock) t->undated = earlier(t->undated, c->clock);
+    }
+    if (t->erased || !is_over(t, t->deleted, c->clock)) return;
+    t->erased = true, t->dated = !is_over(t, t->undated, c->clock);
 }
 
 static struct answer call_all(struct twins *t, const struct call *c, const struct call *other) {
@@ -107,10 +77,8 @@ static struct answer call_all(struct twins *t, const struct call *c, const struc
 }
 
 static void step(struct twins *t, const struct call *c, const struct call *other, bool after) {
-    bool crowded = is_write(c) && is_crowded(&t->steps.native, c);
     struct answer a = call_all(t, c, other);
-    bool merged = (a.refusal == 0 && (c->kind == FLUSH || crowded)) || a.refusal == GUONTREM_FULL;
-    if (after && (a.refusal == 0 || a.refusal == GUONTREM_FULL)) follow(t, c, a.refusal, merged);
+    if (after && a.refusal == 0) follow(t, c);
     bool same = same_words(&t->one, &t->two), seen = holds_tally(&t->one, t->tallies[0]) || holds_tally(&t->two, t->tallies[1]);
     t->differed |= !same, t->seen |= seen;
     if (t->erased && !same) fail("words differ though the put was erased", &t->steps, c);

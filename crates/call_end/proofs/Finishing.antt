@@ -30,7 +30,7 @@ module _ {g : Store} {e l : List ℕ} {t before merges : ℕ} (d : Ending g e l 
   pub merges-fit : merges + more ≤ 12
   merges-fit =
       let b = allowed-bounds (g .state .settings) (d .laid .formed .settings-ok) in
-      omega (arith, d .few, w .counts, b .deepest-high, pass-merges-most t (begin (g .state)) (omega (arith, b .deepest-low)))
+      omega (arith, d .few, w .counts, b .deepest-high, pass-merges-most t (begin (g .state)))
 
   pub after-rows : RowsAre after l′
   after-rows = laid-rows (at-state g after) e′ l′ (w .laid)

@@ -169,8 +169,8 @@ module _ (w : Tables) (c : Call Tally) where
       → call-tables w c .answer .purged + records-of (call-tables w c .tables .levels) ≡ records-of (w .levels) + count-written (c .op)
   purged-adds-up = accepted.purged-adds-up w c
 
-  -- And by its row no level from 1 to L−1 is "still over capacity or limit".
-  pub accepted-settles : Fits32 (w .entries) → call-tables w c .answer .refusal ≡ 0 → (i : ℕ) → 1 ≤ i → i < settings-of (w .levels) .deepest
+  -- And by its row no level from 0 to L−1 is due: none is over its limit, the buffer has fewer than B records and no other level more than its capacity.
+  pub accepted-settles : Fits32 (w .entries) → call-tables w c .answer .refusal ≡ 0 → (i : ℕ) → i < settings-of (w .levels) .deepest
       → Settled (settings-of (w .levels)) (c .clock) i (level-row (call-tables w c .tables .levels) i)
   accepted-settles = accepted.accepted-settles w c
 

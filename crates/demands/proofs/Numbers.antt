@@ -14,7 +14,7 @@ use Rattle.settings.specs.Limits.{capacity, limit}
 use Rattle.settings.proofs.Allowed.{allowed-bounds}
 use Rattle.model.specs.declared.Tally.{Tally}
 use Rattle.model.specs.Records.{Level, State, empty, level, held, held-all}
-use Rattle.model.specs.Steps.{due}
+use Rattle.model.specs.Steps.{overfull, overdue, due}
 use Rattle.model.specs.Calls.{Call, count-written, step, run}
 use Rattle.model.specs.Erasure.{accepted}
 use Rattle.model.proofs.Numbers.{purged-sum, run-settings}
@@ -53,15 +53,22 @@ records-held p size =
     (λ m b. ap (λ j. level-row (level-words p) j .held) (omega arith) ∙ ap (λ (r : Row). r .held) (level-row-at p m b))
     ∙ omega arith
 
--- A level that is not due is neither over its capacity nor over its limit.
+-- A level that is not due has no more records than it may have, and is not over its limit.
+not-overfull : (s : Settings) (i n : ℕ) → overfull s i n ≡ false → (i ≡ 0 → n < s .buffer) × (1 ≤ i → n ≤ capacity s i)
+unfolding overfull
+not-overfull s zero n h = ((λ z. leb-false (s .buffer) n h), λ p. absurd (omega arith))
+not-overfull s (suc i) n h = ((λ z. absurd (omega arith)), λ p. ltb-false (capacity s (suc i)) n h)
+
 not-due : (s : Settings) (t i : ℕ) (v : Level ℕ Tally) → due s t i v ≡ false → Settled s t i (row-of-level v)
-unfolding due
+unfolding due overdue
 not-due s t i v h =
-    let over = ltb (capacity s i) (held v) in
+    let over = overfull s i (held v) in
     let late = leb (limit s i) (t - v .owed) in
     let owes = not (eqb (v .owed) 0) in
+    let few = not-overfull s i (held v) (or-false-left over (owes && late) h) in
     record {
-      in-capacity = ltb-false (capacity s i) (held v) (or-false-left over (owes && late) h);
+      in-buffer = few .0;
+      in-capacity = few .1;
       in-limit = λ z. leb-false (limit s i) (t - v .owed) (and-second-false owes late (or-false-right over (owes && late) h) (rw (ne-eqb (v .owed) 0 z)));
     }
 
@@ -101,6 +108,9 @@ module _ (w : Tables) (c : Call Tally) (fits : Fits32 (w .entries)) (ok : call-t
   deep : 0 < p .settings .deepest
   deep = omega (arith, allowed-bounds (p .settings) (formed .settings-ok) .deepest-low)
 
+  some : 0 < p .settings .buffer
+  some = omega (arith, allowed-bounds (p .settings) (formed .settings-ok) .buffer-low)
+
   same-settings : p .settings ≡ settings-of (w .levels)
   unfolding state-as
   same-settings = refl
@@ -109,11 +119,11 @@ module _ (w : Tables) (c : Call Tally) (fits : Fits32 (w .entries)) (ok : call-t
   unfolding run
   settings-stay = run-settings p (c ∷ []) deep
 
-  pub accepted-settles : (i : ℕ) → 1 ≤ i → i < settings-of (w .levels) .deepest
+  pub accepted-settles : (i : ℕ) → i < settings-of (w .levels) .deepest
       → Settled (settings-of (w .levels)) (c .clock) i (level-row (call-tables w c .tables .levels) i)
-  accepted-settles i low high =
+  accepted-settles i high =
       let below : i < p .settings .deepest = rw same-settings high in
       let inside : i < length (after .levels) = omega (arith, below, after-formed .size, ap (λ (s : Settings). s .deepest) settings-stay) in
       let row : level-row (call-tables w c .tables .levels) i ≡ row-of-level (level i after) =
       ap (λ (r : Called). level-row (r .tables .levels) i) called ∙ level-row-at after i inside in
-      rw (row, ← same-settings) (not-due (p .settings) (c .clock) i (level i after) (model.accepted-settles p c deep accept i low below))
+      rw (row, ← same-settings) (not-due (p .settings) (c .clock) i (level i after) (model.accepted-settles p c deep accept i below (λ z. some)))

@@ -1,4 +1,4 @@
-// The pass: the buffer merged where it is full, then each level from 1 to L−1 that is over its capacity or its limit.
+// The pass: each level from the buffer to L−1 merged where it has too many records or has owed for its limit.
 use merge_levels::merge_level;
 use settings::LevelSettings;
 use table_levels::level_at;
@@ -7,7 +7,7 @@ ghost use mathlib.Core.Path.{_≡_};
 ghost use Prim.Native.Nat.{_≤_};
 ghost use Rattle.lists.specs.All.{Exists};
 ghost use Rattle.settings.specs.Carried.{Carried};
-ghost use Rattle.model.specs.Steps.{begin, pass-buffer, pass-level, pass};
+ghost use Rattle.model.specs.Steps.{begin, overfull, overdue, pass-level, pass};
 ghost use Rattle.tables.specs.Rows.{InRows, level-row};
 ghost use Rattle.merge_levels.specs.Laid.{Store, Laid, Worked};
 ghost use Rattle.merge_pass.specs.Due.{due-row};
@@ -18,25 +18,13 @@ pub fn pass(e: &mut [u32], l: &mut [u32], clock: u32) -> u32
     ensures { λ r. ⌜ ((g : Store) → Laid g (now (e .entry)) (now (l .entry)) → g .time ≡ clock → Worked g (pass clock (begin (g .state))) (now (e .exit)) (now (l .exit)) r) ⌝ }
 {
     let settings = settings_of(l);
-    let mut merges = pass_buffer(e, l);
     let mut at = settings.at_level(0);
-    while at.level + 1 < settings.deepest {
-        at = at.next();
+    let mut merges = 0;
+    while at.level < settings.deepest {
         merges += pass_level(e, l, clock, at);
+        at = at.next();
     }
     merges
-}
-
-// The buffer merged if it has B records or more.
-fn pass_buffer(e: &mut [u32], l: &mut [u32]) -> u32
-    requires { ⌜ Exists (λ g. Laid g (now e) (now l)) ⌝ }
-    ensures { λ r. ⌜ ((g : Store) → Laid g (now (e .entry)) (now (l .entry)) → Worked g (pass-buffer (begin (g .state))) (now (e .exit)) (now (l .exit)) r) ⌝ }
-{
-    let buffer = level_at(l, 0);
-    if buffer.held < settings_of(l).buffer as usize {
-        return 0;
-    }
-    merge_level(e, l, 0)
 }
 
 // A level merged if it is due.
@@ -52,7 +40,6 @@ fn pass_level(e: &mut [u32], l: &mut [u32], clock: u32, at: LevelSettings) -> u3
     merge_level(e, l, at.level as usize)
 }
 
-// Whether a level has more than its capacity, or has owed for its limit.
 fn is_due(l: &[u32], clock: u32, at: LevelSettings) -> bool
     requires { ⌜ Carried at ⌝ }
     requires { ⌜ InRows (now l) (at .level) ⌝ }
@@ -60,11 +47,31 @@ fn is_due(l: &[u32], clock: u32, at: LevelSettings) -> bool
     ensures { λ r. ⌜ r ≡ due-row (at .settings) clock (at .level) (level-row (now (l .entry)) (at .level)) ⌝ }
 {
     let row = level_at(l, at.level as usize);
-    if at.capacity() < row.held as u64 {
+    if is_overfull(row.held, at) {
         return true;
     }
-    if row.owed == 0 {
+    is_overdue(row.owed, clock, at)
+}
+
+// Whether the buffer has B records or more, or another level more than its capacity.
+fn is_overfull(held: usize, at: LevelSettings) -> bool
+    requires { ⌜ Carried at ⌝ }
+    ensures { λ r. ⌜ r ≡ overfull (at .settings) (at .level) held ⌝ }
+{
+    if at.level == 0 {
+        return at.settings.buffer as usize <= held;
+    }
+    at.capacity() < held as u64
+}
+
+// Whether a level has owed for its limit, the buffer too.
+fn is_overdue(owed: u32, clock: u32, at: LevelSettings) -> bool
+    requires { ⌜ Carried at ⌝ }
+    requires { ⌜ owed ≤ clock ⌝ }
+    ensures { λ r. ⌜ r ≡ overdue (at .settings) clock (at .level) owed ⌝ }
+{
+    if owed == 0 {
         return false;
     }
-    at.limit() <= (clock - row.owed) as u64
+    at.limit() <= (clock - owed) as u64
 }

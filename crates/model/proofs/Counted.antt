@@ -1,13 +1,13 @@
 -- What merges were counted before has no part in what follows: it is only added.
 use mathlib.Core.Path.{_≡_, refl, sym, ap, _∙_}
 use mathlib.Core.Bool.{Bool, true, false, cond}
-use Prim.Native.Nat.{ℕ, suc, _+_, _-_}
+use Prim.Native.Nat.{ℕ, suc, _+_}
 use native.Mathlib.Omega.{arith}
 use lib.Dec.{eqb}
 use Rattle.lists.proofs.Bools.{cond-ap}
 use Rattle.lists.proofs.Loops.{iterate-map}
 use Rattle.model.specs.Records.{level, held}
-use Rattle.model.specs.Steps.{Work, begin, merge-level, buffer-due, due, pass-buffer, pass-level, pass}
+use Rattle.model.specs.Steps.{Work, begin, merge-level, due, pass-level, pass}
 
 counted : (k : ℕ) (b : Bool) (m : ℕ) → cond b (k + m) (suc (k + m)) ≡ k + cond b m (suc m)
 counted k true m = refl
@@ -22,17 +22,13 @@ module _ {S A : Type 0} (k : ℕ) where
   unfolding merge-level
   merge-level-adds i w = rw (counted k (eqb (held (level i (w .state))) 0) (w .merges))
 
-  pass-buffer-adds : (w : Work S A) → pass-buffer (add w) ≡ add (pass-buffer w)
-  unfolding pass-buffer
-  pass-buffer-adds w = rw (merge-level-adds 0 w) (sym (cond-ap add (buffer-due (w .state)) (merge-level 0 w) w))
-
   pub pass-level-adds : (t i : ℕ) (w : Work S A) → pass-level t i (add w) ≡ add (pass-level t i w)
   unfolding pass-level
   pass-level-adds t i w = rw (merge-level-adds i w) (sym (cond-ap add (due (w .state .settings) t i (level i (w .state))) (merge-level i w) w))
 
   pub pass-adds : (t : ℕ) (w : Work S A) → pass t (add w) ≡ add (pass t w)
   unfolding pass
-  pass-adds t w = rw (pass-buffer-adds w) (iterate-map add (pass-level t) (pass-level t) (pass-level-adds t) (w .state .settings .deepest - 1) 1 (pass-buffer w))
+  pass-adds t w = iterate-map add (pass-level t) (pass-level t) (pass-level-adds t) (w .state .settings .deepest) 0 w
 
 -- The pass of some work is that of its state, with the merges before it.
 pub pass-after : {S A : Type 0} (t : ℕ) (w : Work S A) → pass t w ≡ add (w .merges) (pass t (begin (w .state)))

@@ -1,6 +1,6 @@
 -- The call of a delete, and all calls after it: once its term has passed, no mark of what it covered is left.
 use mathlib.Core.Path.{_≡_, refl, sym, ap, _∙_}
-use mathlib.Core.Bool.{true, false, _||_, false≢true}
+use mathlib.Core.Bool.{true, false, false≢true}
 use mathlib.Core.List.{List, [], _∷_}
 use Prim.Native.Nat.{ℕ, _≤_, _<_}
 use native.Mathlib.Omega.{arith}
@@ -8,25 +8,25 @@ use lib.ListN.{length, getD, set, replicate}
 use Rattle.settings.specs.declared.Settings.{Settings}
 use Rattle.lists.specs.Lists.{any}
 use Rattle.lists.specs.All.{All}
-use Rattle.lists.proofs.Bools.{cond-elim, by-cases, or-second}
+use Rattle.lists.proofs.Bools.{cond-elim, by-cases}
 use Rattle.lists.proofs.Tests.{all-append, all-replicate, all-get}
 use Rattle.model.specs.Records.{Level, State, empty, level}
 use Rattle.model.specs.Merge.{merged, settled}
 use Rattle.model.specs.Steps.{write-covers, Work, Write, put, delete, delete-range, single, unplaced, merge-all, crowded, make-room, full, write}
 use Rattle.model.specs.Calls.{written, Call, prepared, step, run}
-use Rattle.model.specs.Erasure.{accepted, pass-merges, merged-in}
+use Rattle.model.specs.Erasure.{accepted}
 use Rattle.model.proofs.Coverage.{over-one}
-use Rattle.model.proofs.Keeps.{Kept, pass-keeps, has-room}
+use Rattle.model.proofs.Keeps.{has-room}
 use Rattle.model.proofs.Form.{formed-kept}
-use Rattle.model.proofs.StepView.{worked, accepted-outcome, accepted-clock, Accepted, accepted-ends}
+use Rattle.model.proofs.StepView.{accepted-outcome, Accepted, accepted-ends}
 use Rattle.model.proofs.Deepest.{only-set, Drained, merge-all-drained}
 use Rattle.model.proofs.LookupSteps.{full-room}
 use Rattle.model.proofs.Points.{acted, act-levels, enter-levels, merge-all-holding}
 use Rattle.model.proofs.Timed.{let-in-clock}
 use Rattle.model.proofs.Marks.{Mark, Keyed, Newer, KeyedLevel, NewerLevel, reaches, staying-newer}
 use Rattle.model.proofs.Sinking.{Front, Sunk, front, front-down}
-use Rattle.model.proofs.MarkedSteps.{QuietWrite, Quiet, MarksOf, NoMark, Sinking, sinking-kept}
-use Rattle.model.proofs.Erasing.{Fated, accepted-no-mark, merged-inside, run-fated, run-merged}
+use Rattle.model.proofs.MarkedSteps.{QuietWrite, Quiet, MarksOf, NoMark, Sinking}
+use Rattle.model.proofs.Erasing.{Fated, accepted-no-mark, accepted-sinking, run-fated}
 
 module _ {A : Type 0} where
   -- What covers a put carries no mark.
@@ -105,7 +105,7 @@ module _ {S A : Type 0} (k b : ℕ) (s : State S (Mark A)) (c : Call (Mark A)) (
           (acted-erases k b (c .clock) w (level i m) covers (all-get (KeyedLevel k b) (m .levels) i empty (all-merged .1) tt), tt))
 
   -- It entered the buffer, over levels whose marks are of its docket.
-  entered-sunk : full (c .clock) w s ≡ false → Sinking k b (c .clock) 0 (write (c .clock) w s .state)
+  entered-sunk : full (c .clock) w s ≡ false → Sinking k b (c .clock) (write (c .clock) w s .state)
   unfolding write
   entered-sunk h =
       let r : State S (Mark A) = make-room (c .clock) w s .state in
@@ -125,26 +125,11 @@ module _ {S A : Type 0} (k b : ℕ) (s : State S (Mark A)) (c : Call (Mark A)) (
   unfolding prepared
   prepared-write = rw is
 
-  pub delete-fated : (cs : List (Call (Mark A))) → All Quiet cs → full (c .clock) w s || (pass-merges s c || merged-in (step s c .state) cs) ≡ true
-      → Fated k b (c .clock) (run (step s c .state) cs)
-  delete-fated cs q h = by-cases (full (c .clock) w s) acting (λ a. entering a (or-second (full (c .clock) w s) _ h a))
+  pub delete-fated : (cs : List (Call (Mark A))) → All Quiet cs → Fated k b (c .clock) (run (step s c .state) cs)
+  delete-fated cs q = run-fated k b (c .clock) (step s c .state) cs q (rw (ends .ends) (by-cases (full (c .clock) w s) acting entering))
     where
-      d : ℕ
-      d = c .clock
+      acting : full (c .clock) w s ≡ true → Fated k b (c .clock) (accepted-outcome s c .state)
+      acting a = accepted-no-mark k b (c .clock) s c quiet late (rw prepared-write (direct-clean a))
 
-      rest : Fated k b d (accepted-outcome s c .state) → Fated k b d (run (step s c .state) cs)
-      rest f = run-fated k b d (step s c .state) cs q (rw (ends .ends) f)
-
-      acting : full (c .clock) w s ≡ true → Fated k b d (run (step s c .state) cs)
-      acting a = rest (accepted-no-mark k b d s c quiet late (rw prepared-write (direct-clean a)))
-
-      entering : full (c .clock) w s ≡ false → pass-merges s c || merged-in (step s c .state) cs ≡ true → Fated k b d (run (step s c .state) cs)
-      entering a g =
-          let p : Sinking k b d 0 (prepared (c .clock) (c .op) s .state) = rw prepared-write (entered-sunk a) in
-          by-cases (pass-merges s c) (λ y. rest (merged-inside k b d s c quiet late y p))
-          (λ n. run-merged k b d (step s c .state) cs q (rw (ends .ends, accepted-clock s c) late) (rw (ends .ends) (passed p)) (or-second (pass-merges s c) _ g n))
-        where
-          passed : Sinking k b d 0 (prepared (c .clock) (c .op) s .state) → Sinking k b d 0 (accepted-outcome s c .state)
-          passed p = unfold accepted-outcome worked in
-              let sk : Kept {S = S} (Sinking k b d 0) c = sinking-kept k b c quiet late d 0 in
-              sk .timing _ (pass-keeps (Sinking k b d 0) (sk .deep) (sk .merging) (c .clock) (prepared (c .clock) (c .op) s) p .0)
+      entering : full (c .clock) w s ≡ false → Fated k b (c .clock) (accepted-outcome s c .state)
+      entering a = accepted-sinking k b (c .clock) s c quiet late (rw prepared-write (entered-sunk a))

@@ -71,15 +71,15 @@ module _ {S A : Type 0} (s : State S A) (c : Call A) where
       go r (refused-7 e f) h n = absurd (n refl)
       go r (passed e f) h n = absurd (false≢true (sym h))
 
-  -- "after a pass no level from 1 to L−1 is over its capacity or limit"
-  pub accepted-settles : 0 < s .settings .deepest → accepted s c ≡ true → (i : ℕ) → 1 ≤ i → i < s .settings .deepest
+  -- After an accepted call no level from 0 to L−1 is due; for the buffer B must not be 0.
+  pub accepted-settles : 0 < s .settings .deepest → accepted s c ≡ true → (i : ℕ) → i < s .settings .deepest → (i ≡ 0 → 0 < s .settings .buffer)
       → due (s .settings) (c .clock) i (level i (step s c .state)) ≡ false
   unfolding accepted-outcome worked
-  accepted-settles h a i low high =
+  accepted-settles h a i high some =
       let w = prepared (c .clock) (c .op) s in
       let same : w .state .settings ≡ s .settings = prepared-settings s c h in
       rw (accepted-ends s c a .ends)
-      (ap (λ x. due x (c .clock) i (level i (pass (c .clock) w .state))) (sym same) ∙ pass-leaves-none-due (c .clock) w i low (rw same high))
+      (ap (λ x. due x (c .clock) i (level i (pass (c .clock) w .state))) (sym same) ∙ pass-leaves-none-due (c .clock) w i (rw same high) (rw same some))
 
 -- Everything merged into level L, and the clock as before.
 pub record MergedDown {S A : Type 0} (s m : State S A) : Type 0 where

@@ -185,7 +185,7 @@ module _ {S A : Type 0} where
       fated : Fated k (min b d) d (run s ms)
       fated = rw (run-split s ms j (h .write) (h .is-write))
           (delete-fated k (min b d) s₁ c (h .write) (h .is-write) (erases-covers d (h .write) k b covered) (omega arith) at-delete (h .accept)
-          (drop (suc j) ms) (after-quiet i k (suc j) cs (omega (arith, h .after))) (h .fate))
+          (drop (suc j) ms) (after-quiet i k (suc j) cs (omega (arith, h .after))))
 
   mark-erased : {i j k : ℕ} {cs : List (Call A)} {s : State S A} (a : A) (ms : State S (Mark A)) → s ≡ map-state (λ x. x) (read a) ms → Erased s cs i j k a
       → Erased ms (mark i k cs) i j k marked

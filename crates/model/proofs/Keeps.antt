@@ -13,7 +13,7 @@ use Rattle.lists.proofs.Loops.{iterate-keeps}
 use Rattle.model.specs.Records.{State, level}
 use Rattle.model.specs.Merge.{release}
 use Rattle.model.specs.Steps.{Work, Write, put, delete, delete-range, begin, merge-state, merge-level, merge-all, displaced, enter-at, enter, set-points}
-use Rattle.model.specs.Steps.{wipe, act-deepest, crowded, make-room, full, write, buffer-due, due, pass-buffer, pass-level, pass, still-due}
+use Rattle.model.specs.Steps.{wipe, act-deepest, crowded, make-room, full, write, due, pass-level, pass, still-due}
 use Rattle.model.specs.Calls.{Op, written, flush, tick, Call, Outcome, early-refusal, timed, refused, prepared, out-of-slots, finish, step, run}
 
 none-release : {X : Type 0} (xs ys : List X) → none (release xs ys) ≡ true → (none xs ≡ true) × (none ys ≡ true)
@@ -75,25 +75,16 @@ module _ {S A : Type 0} (P : State S A → Type 0) (deep : (s : State S A) → P
   merge-all-keeps s p = iterate-keeps merge-level (Under (s .settings)) (s .settings .deepest) 0 (begin s)
       (λ j y a b. merge-under (s .settings) j y (omega arith)) (p, refl)
 
-  pub pass-buffer-keeps : (settings : Settings) (w : Work S A) → Under settings w → Under settings (pass-buffer w)
-  unfolding pass-buffer
-  pass-buffer-keeps settings w p = cond-elim (Under settings) (buffer-due (w .state)) (merge-level 0 w) w
-      (λ g. merge-under settings 0 w (rw (p .1) at (deep (w .state) (p .0))) p) (λ g. p)
-
   pass-level-keeps : (settings : Settings) (t i : ℕ) (w : Work S A) → i < settings .deepest → Under settings w → Under settings (pass-level t i w)
   unfolding pass-level
   pass-level-keeps settings t i w h p = cond-elim (Under settings) (due (w .state .settings) t i (level i (w .state))) (merge-level i w) w
       (λ g. merge-under settings i w h p) (λ g. p)
 
-  -- The levels from 1 on, once the buffer has had its turn.
-  pub pass-rest-keeps : (t : ℕ) (w : Work S A) → 0 < w .state .settings .deepest → Under (w .state .settings) (pass-buffer w) → Under (w .state .settings) (pass t w)
-  unfolding pass
-  pass-rest-keeps t w h p =
-      iterate-keeps (pass-level t) (Under (w .state .settings)) (w .state .settings .deepest - 1) 1 (pass-buffer w)
-      (λ j y a b. pass-level-keeps (w .state .settings) t j y (omega arith)) p
-
   pub pass-keeps : (t : ℕ) (w : Work S A) → P (w .state) → Under (w .state .settings) (pass t w)
-  pass-keeps t w p = pass-rest-keeps t w (deep (w .state) p) (pass-buffer-keeps (w .state .settings) w (p, refl))
+  unfolding pass
+  pass-keeps t w p =
+      iterate-keeps (pass-level t) (Under (w .state .settings)) (w .state .settings .deepest) 0 w
+      (λ j y a b. pass-level-keeps (w .state .settings) t j y (omega arith)) (p, refl)
 
 module _ {S A : Type 0} (P : State S A → Type 0) (c : Call A) (k : Kept P c) where
   merge-all-kept : (s : State S A) → P s → P (merge-all s .state)

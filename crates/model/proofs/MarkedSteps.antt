@@ -13,7 +13,7 @@ use Rattle.model.proofs.Form.{Formed, formed-kept}
 use Rattle.model.proofs.LookupSteps.{last-only}
 use Rattle.model.proofs.Points.{Holding, Writes, act-levels, enter-levels, acted-points, holding-kept, holding-weaken}
 use Rattle.model.proofs.Marks.{Mark, is-marked, Keyed, Newer}
-use Rattle.model.proofs.Sinking.{SunkFrom, Fits, from-merge, from-enter, from-act}
+use Rattle.model.proofs.Sinking.{Sunk, Fits, sunk-merge, sunk-enter, sunk-act}
 
 module _ {A : Type 0} where
   -- A write that carries no mark; one at t that carries it of docket k at b only.
@@ -70,7 +70,7 @@ pub fits : {S A : Type 0} (i : ℕ) (s : State S (Mark A)) → Formed s → i < 
 fits i s f h = (omega (arith, f .size), last-only i s f)
 
 -- Properties of a store in form. Before the delete: marks of docket k at b only, and no stamp after t. After it: all points newer, so that no mark is left; or the
--- first n levels newer, and below them the delete, which came at d, sinks.
+-- delete, which came at d, sinks.
 module _ {S A : Type 0} (k b : ℕ) where
   abbrev pub MarksOf : State S (Mark A) → Type 0
   MarksOf = Holding (Keyed k b)
@@ -81,8 +81,8 @@ module _ {S A : Type 0} (k b : ℕ) where
   abbrev pub NoMark : State S (Mark A) → Type 0
   NoMark = Holding (Newer k b)
 
-  abbrev pub Sinking : ℕ → ℕ → State S (Mark A) → Type 0
-  Sinking d n s = Formed s × SunkFrom k b d n (s .levels)
+  abbrev pub Sinking : ℕ → State S (Mark A) → Type 0
+  Sinking d s = Formed s × Sunk k b d (s .levels)
 
   pub marks-upto-kept : (c : Call (Mark A)) → KeyedCall k b c → Kept (MarksUpto (c .clock)) c
   marks-upto-kept c q = holding-kept (KeyedUpto k b (c .clock)) c (λ w e. keyed-upto k b (c .clock) w (rw e at q))
@@ -95,19 +95,19 @@ module _ {S A : Type 0} (k b : ℕ) where
     pub no-mark-kept : Kept NoMark c
     no-mark-kept = holding-kept (Newer k b) c (λ w e. quiet-newer k b (c .clock) w h (rw e at q))
 
-    pub sinking-kept : (d n : ℕ) → Kept (Sinking d n) c
+    pub sinking-kept : (d : ℕ) → Kept (Sinking d) c
     unfolding merge-state
-    sinking-kept d n = record {
+    sinking-kept d = record {
       deep = λ s p. formed-kept c .deep s (p .0);
-      merging = λ i s l p. (formed-kept c .merging i s l (p .0), from-merge k b d n _ i (s .levels) (fits i s (p .0) l) (p .1));
+      merging = λ i s l p. (formed-kept c .merging i s l (p .0), sunk-merge k b d _ i (s .levels) (fits i s (p .0) l) (p .1));
       entering = λ w s e m p. (
         formed-kept c .entering w s e m (p .0),
-        enter-levels (SunkFrom k b d n) (c .clock) w s m (λ x.
-            from-enter k b d n (single x (c .clock) w) (s .levels) (omega (arith, p .0 .size)) (quiet-newer k b (c .clock) w h (rw e at q) x) (p .1)),
+        enter-levels (Sunk k b d) (c .clock) w s m (λ x.
+            sunk-enter k b d (single x (c .clock) w) (s .levels) (omega (arith, p .0 .size)) (quiet-newer k b (c .clock) w h (rw e at q) x) (p .1)),
       );
       acting = λ w s e p. (
         formed-kept c .acting w s e (p .0),
-        rw (act-levels (c .clock) w s) (from-act k b d n (s .settings .deepest) _ (s .levels) (p .0 .size)
+        rw (act-levels (c .clock) w s) (sunk-act k b d (s .settings .deepest) _ (s .levels) (p .0 .size)
             (λ a. acted-points (Newer k b) (c .clock) w _ (quiet-newer k b (c .clock) w h (rw e at q)) a)
             (λ a. acted-points (Keyed k b) (c .clock) w _ (quiet-keyed k b (c .clock) w (rw e at q)) a) (p .1)),
       );

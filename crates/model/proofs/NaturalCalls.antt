@@ -4,17 +4,17 @@ use mathlib.Core.Bool.{cond}
 use mathlib.Core.List.{List, [], _∷_, map}
 use Prim.Native.Nat.{ℕ, zero, suc, max}
 use lib.Dec.{leb, eqb}
-use lib.ListN.{length, take, drop, List·getD-map, replicate}
+use lib.ListN.{length, take, List·getD-map, replicate}
 use Rattle.lists.proofs.Bools.{cond-ap}
 use Rattle.settings.specs.declared.Settings.{Settings}
 use Rattle.model.specs.Records.{Entry, value, tombstone, Point, Range, Level, State, empty, fresh, slotless}
 use Rattle.model.specs.Steps.{Work, Write, put, delete, delete-range, begin, pass, merge-all, still-due}
 use Rattle.model.specs.Lookup.{Found, absent, reads, latest, judged, find, lookup-from, lookup}
 use Rattle.model.specs.Calls.{Op, written, flush, tick, Call, Outcome, bad-docket, bad-date, early-refusal, count-written, prepared, out-of-slots, refused, finish, step, run, answers}
-use Rattle.model.specs.Erasure.{call-at, erases, accepted, pass-merges, merges-before, merges-buffer, merged-in, before, merged-after, Erased}
+use Rattle.model.specs.Erasure.{call-at, erases, accepted, before, Erased}
 use Rattle.model.specs.Renaming.{map-entry, map-found, map-point, map-range, map-level, map-state, map-work, map-write, map-op, map-call, map-outcome}
 use Rattle.model.proofs.NaturalMerge.{held-all-map}
-use Rattle.model.proofs.NaturalSteps.{merge-level-map, merge-all-map, write-map, no-slot-map, pass-map, still-due-map, full-map, crowded-map, buffer-due-map}
+use Rattle.model.proofs.NaturalSteps.{merge-level-map, merge-all-map, write-map, no-slot-map, pass-map, still-due-map}
 
 written-same : {A : Type 0} {v w : Write A} → written v ≡ written w → v ≡ w
 written-same e = cc
@@ -116,38 +116,15 @@ module _ {S T A B : Type 0} (g : S → T) (f : A → B) where
   pub lookup-map : (ls : List (Level S A)) (k : ℕ) → lookup (map (map-level g f) ls) k ≡ map-found f (lookup ls k)
   lookup-map ls k = lookup-from-map 0 ls k
 
-  -- What became of a delete.
+  -- Which put is erased.
   pub accepted-map : (s : State S A) (c : Call A) → accepted (map-state g f s) (map-call f c) ≡ accepted s c
   unfolding accepted
   accepted-map s c = rw (step-map s c)
-
-  pass-merges-map : (s : State S A) (c : Call A) → pass-merges (map-state g f s) (map-call f c) ≡ pass-merges s c
-  unfolding pass-merges
-  pass-merges-map s c = rw (prepared-map (c .clock) (c .op) s, buffer-due-map g f (prepared (c .clock) (c .op) s .state))
-
-  merges-before-map : (t : ℕ) (op : Op A) (s : State S A) → merges-before t (map-op f op) (map-state g f s) ≡ merges-before t op s
-  merges-before-map t (written w) s = crowded-map g f t w s
-  merges-before-map t flush s = refl
-  merges-before-map t tick s = refl
-
-  merges-buffer-map : (s : State S A) (c : Call A) → merges-buffer (map-state g f s) (map-call f c) ≡ merges-buffer s c
-  unfolding merges-buffer
-  merges-buffer-map s c = rw (bad-docket-map (c .op), bad-date-map (c .clock) (c .op), merges-before-map (c .clock) (c .op) s, pass-merges-map s c)
-
-  merged-in-map : (s : State S A) (cs : List (Call A)) → merged-in (map-state g f s) (map (map-call f) cs) ≡ merged-in s cs
-  unfolding merged-in
-  merged-in-map s [] = refl
-  merged-in-map s (c ∷ cs) = rw (merges-buffer-map s c, step-map s c, merged-in-map (step s c .state) cs)
 
   take-map : (n : ℕ) (cs : List (Call A)) → take n (map (map-call f) cs) ≡ map (map-call f) (take n cs)
   take-map zero cs = refl
   take-map (suc n) [] = refl
   take-map (suc n) (c ∷ cs) = ap (_∷_ (map-call f c)) (take-map n cs)
-
-  drop-map : (n : ℕ) (cs : List (Call A)) → drop n (map (map-call f) cs) ≡ map (map-call f) (drop n cs)
-  drop-map zero cs = refl
-  drop-map (suc n) [] = refl
-  drop-map (suc n) (c ∷ cs) = drop-map n cs
 
   call-at-map : (cs : List (Call A)) (i : ℕ) → call-at (map (map-call f) cs) i ≡ map-call f (call-at cs i)
   call-at-map cs i = List·getD-map (map-call f) cs i (record { clock = 0; op = tick })
@@ -159,18 +136,6 @@ module _ {S T A B : Type 0} (g : S → T) (f : A → B) where
 
   before-map : (s : State S A) (cs : List (Call A)) (j : ℕ) → before (map-state g f s) (map (map-call f) cs) j ≡ map-state g f (before s cs j)
   before-map s cs j = rw (take-map j cs) (run-map s (take j cs))
-
-  merged-after-map : (s : State S A) (cs : List (Call A)) (j : ℕ) → merged-after (map-state g f s) (map (map-call f) cs) j ≡ merged-after s cs j
-  merged-after-map s cs j =
-      let d : Call A = call-at cs j in
-      rw (
-        before-map s cs j,
-        call-at-map cs j,
-        drop-map (suc j) cs,
-        pass-merges-map (before s cs j) d,
-        step-map (before s cs j) d,
-        merged-in-map (step (before s cs j) d .state) (drop (suc j) cs),
-      )
 
   -- What the changed list shows of a put and a delete, the list itself shows.
   pub erased-map : (s : State S A) (cs : List (Call A)) (i j k : ℕ) (a : A) (w : Write A) → call-at cs i .op ≡ written (put k a) → call-at cs j .op ≡ written w
@@ -186,7 +151,6 @@ module _ {S T A B : Type 0} (g : S → T) (f : A → B) where
         is-write = q;
         covers = sym (erases-map (d .clock) w k b) ∙ ap (λ v. erases (d .clock) v k b) same ∙ (rw (call-at-map cs i, call-at-map cs j) at (e .covers));
         accept = sym (rw (before-map s cs j, call-at-map cs j) (accepted-map (before s cs j) d)) ∙ e .accept;
-        fate = sym (rw (← same, merged-after-map s cs j, before-map s cs j, call-at-map cs j, full-map g f (d .clock) w (before s cs j))) ∙ e .fate;
         term = rw (call-at-map cs j, run-map s cs) at (e .term);
       }
 

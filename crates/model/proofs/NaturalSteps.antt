@@ -14,7 +14,7 @@ use Rattle.model.specs.Records.{Point, Level, State, empty, level}
 use Rattle.model.specs.Merge.{point-slots, point-goes, release, merged, joined, freed}
 use Rattle.model.specs.Steps.{Work, Write, put, delete, delete-range, single, unplaced, begin, merge-state, merge-level}
 use Rattle.model.specs.Steps.{merge-all, displaced, enter-at, enter, overwrite, set-points, wipe, act-deepest, crowded, make-room}
-use Rattle.model.specs.Steps.{full, write, no-slot, buffer-due, due, pass-buffer, pass-level, pass, still-due}
+use Rattle.model.specs.Steps.{full, write, no-slot, due, pass-level, pass, still-due}
 use Rattle.model.specs.Renaming.{map-point, map-level, map-state, map-work, map-write}
 use Rattle.model.proofs.NaturalMerge.{names-map, held-map, point-slots-map, going-map, staying-map, gone-map, merged-map, joined-map, freed-map}
 
@@ -128,17 +128,9 @@ module _ {S T A B : Type 0} (g : S → T) (f : A → B) where
   no-slot-map t (delete k) s = refl
   no-slot-map t (delete-range lo hi date) s = refl
 
-  pub buffer-due-map : (s : State S A) → buffer-due (map-state g f s) ≡ buffer-due s
-  unfolding buffer-due
-  buffer-due-map s = rw (level-map 0 s, held-map g f (level 0 s))
-
   pub due-map : (settings : Settings) (t i : ℕ) (l : Level S A) → due settings t i (map-level g f l) ≡ due settings t i l
   unfolding due
   due-map settings t i l = rw (held-map g f l)
-
-  pass-buffer-map : (w : Work S A) → pass-buffer (map-work g f w) ≡ map-work g f (pass-buffer w)
-  unfolding pass-buffer
-  pass-buffer-map w = rw (buffer-due-map (w .state), merge-level-map 0 w) (sym (cond-ap (map-work g f) (buffer-due (w .state)) _ _))
 
   pass-level-map : (t i : ℕ) (w : Work S A) → pass-level t i (map-work g f w) ≡ map-work g f (pass-level t i w)
   unfolding pass-level
@@ -148,8 +140,7 @@ module _ {S T A B : Type 0} (g : S → T) (f : A → B) where
 
   pub pass-map : (t : ℕ) (w : Work S A) → pass t (map-work g f w) ≡ map-work g f (pass t w)
   unfolding pass
-  pass-map t w =
-      rw (pass-buffer-map w) (iterate-map (map-work g f) (pass-level t) (pass-level t) (pass-level-map t) (w .state .settings .deepest - 1) 1 (pass-buffer w))
+  pass-map t w = iterate-map (map-work g f) (pass-level t) (pass-level t) (pass-level-map t) (w .state .settings .deepest) 0 w
 
   pub still-due-map : (t : ℕ) (s : State S A) → still-due t (map-state g f s) ≡ still-due t s
   unfolding still-due

@@ -14,7 +14,7 @@ use Rattle.lists.proofs.Loops.{iterate-holds}
 use Rattle.model.specs.Records.{Level, State, level, held, held-all}
 use Rattle.model.specs.Merge.{point-goes, point-slots, release, freed}
 use Rattle.model.specs.Steps.{Work, Write, put, delete, delete-range, unplaced, begin, merge-state, merge-level, merge-all, displaced, enter-at, enter}
-use Rattle.model.specs.Steps.{set-points, wipe, act-deepest, crowded, make-room, full, write, buffer-due, due, pass-buffer, pass-level, pass}
+use Rattle.model.specs.Steps.{set-points, wipe, act-deepest, crowded, make-room, full, write, due, pass-level, pass}
 use Rattle.model.specs.Calls.{Op, written, flush, tick, Call, Outcome, count-written, prepared, step, run}
 use Rattle.model.specs.Erasure.{accepted}
 use Rattle.model.proofs.Keeps.{Kept, merge-all-keeps, pass-keeps, prepared-kept, run-keeps, enter-settings, act-settings}
@@ -130,22 +130,18 @@ module _ {S A : Type 0} where
   merge-all-merges s =
       omega (arith, iterate-holds merge-level (λ i w. w .merges ≤ i) (s .settings .deepest) 0 (begin s) (λ i w a b h. omega (arith, merge-level-merges i w)) (omega arith))
 
-  pub pass-buffer-merges : (w : Work S A) → pass-buffer w .merges ≤ w .merges + 1
-  unfolding pass-buffer
-  pass-buffer-merges w = cond-elim (λ (x : Work S A). x .merges ≤ w .merges + 1) (buffer-due (w .state)) (merge-level 0 w) w (λ g. merge-level-merges 0 w) (λ g. omega arith)
-
   pub pass-level-merges : (t i : ℕ) (w : Work S A) → pass-level t i w .merges ≤ w .merges + 1
   unfolding pass-level
   pass-level-merges t i w = cond-elim (λ (x : Work S A). x .merges ≤ w .merges + 1) (due (w .state .settings) t i (level i (w .state))) (merge-level i w) w
       (λ g. merge-level-merges i w) (λ g. omega arith)
 
-  pub pass-merges-most : (t : ℕ) (w : Work S A) → 0 < w .state .settings .deepest → pass t w .merges ≤ w .merges + w .state .settings .deepest
+  pub pass-merges-most : (t : ℕ) (w : Work S A) → pass t w .merges ≤ w .merges + w .state .settings .deepest
   unfolding pass
-  pass-merges-most t w h =
+  pass-merges-most t w =
       omega (
         arith,
-        iterate-holds (pass-level t) (λ i x. x .merges ≤ w .merges + i) (w .state .settings .deepest - 1) 1 (pass-buffer w)
-            (λ i x a b p. omega (arith, pass-level-merges t i x)) (pass-buffer-merges w),
+        iterate-holds (pass-level t) (λ i x. x .merges ≤ w .merges + i) (w .state .settings .deepest) 0 w
+            (λ i x a b p. omega (arith, pass-level-merges t i x)) (omega arith),
       )
 
   prepared-merges : (s : State S A) (c : Call A) → prepared (c .clock) (c .op) s .merges + s .settings .deepest ≤ most-merges (c .clock) (c .op) s
@@ -192,4 +188,4 @@ module _ {S A : Type 0} where
       go r (refused-7 e g) q = absurd (false≢true q)
       go r (passed e g) q =
           let same = ap (λ (x : Settings). x .deepest) (prepared-settings s c h) in
-          omega (arith, pass-merges-most (c .clock) (prepared (c .clock) (c .op) s) (rw same h), prepared-merges s c, same)
+          omega (arith, pass-merges-most (c .clock) (prepared (c .clock) (c .op) s), prepared-merges s c, same)

@@ -1,4 +1,4 @@
--- After a pass no level from 1 to L−1 is over its capacity or its limit, whatever the state was: number 8 never comes.
+-- After a pass no level from 0 to L−1 is due, whatever the state was: number 8 never comes.
 use mathlib.Core.Path.{_≡_, refl, ap, _∙_}
 use mathlib.Core.Logic.{_≢_}
 use mathlib.Core.Bool.{false}
@@ -8,14 +8,14 @@ use native.Mathlib.Omega.{arith}
 use native.Mathlib.Decide.{ℕ-discrete}
 use lib.ListN.{getD, set}
 use lib.Seq.{getD-set-other}
-use borrow.Author.Tests.{le-ltb}
+use borrow.Author.Tests.{le-ltb, lt-leb}
 use Rattle.settings.specs.declared.Settings.{Settings}
 use Rattle.settings.specs.Limits.{capacity}
 use Rattle.lists.proofs.Bools.{cond-elim, or-false-intro}
 use Rattle.lists.proofs.Loops.{iterate-holds}
 use Rattle.model.specs.Records.{Level, State, empty, level}
 use Rattle.model.specs.Merge.{joined}
-use Rattle.model.specs.Steps.{Work, merge-state, merge-level, buffer-due, due, pass-buffer, pass-level, pass, still-due}
+use Rattle.model.specs.Steps.{Work, merge-state, merge-level, overfull, overdue, due, pass-level, pass, still-due}
 
 get-set-default : {X : Type 0} (xs : List X) (i : ℕ) (d : X) → getD (set xs i d) i d ≡ d
 get-set-default [] i d = refl
@@ -36,30 +36,36 @@ module _ {S A : Type 0} where
       getD-set-other (set (s .levels) i empty) (suc i) k (joined _ (level i s) (level (suc i) s)) empty b
       ∙ getD-set-other (s .levels) i k empty empty a
 
-  pub due-empty : (settings : Settings) (t i : ℕ) (l : Level S A) → l ≡ empty → due settings t i l ≡ false
-  unfolding due
-  due-empty settings t i l e = rw (e, le-ltb (capacity settings i) 0 (omega arith))
+  -- An empty level is not due; for the buffer B must not be 0.
+  due-empty : (settings : Settings) (t i : ℕ) (l : Level S A) → (i ≡ 0 → 0 < settings .buffer) → l ≡ empty → due settings t i l ≡ false
+  unfolding due overfull overdue
+  due-empty settings t zero l b e = rw (e, lt-leb (settings .buffer) 0 (b refl))
+  due-empty settings t (suc i) l b e = rw (e, le-ltb (capacity settings (suc i)) 0 (omega arith))
 
   module _ (settings : Settings) (t : ℕ) where
-    -- The levels from 1 to before j are settled.
+    -- Level i is settled.
+    abbrev SettledAt : ℕ → Work S A → Type 0
+    SettledAt i w = (i ≡ 0 → 0 < settings .buffer) → due settings t i (level i (w .state)) ≡ false
+
+    -- All levels before j are.
     Settled : ℕ → Work S A → Type 0
-    Settled j w = (w .state .settings ≡ settings) × ((i : ℕ) → 1 ≤ i → i < j → due settings t i (level i (w .state)) ≡ false)
+    Settled j w = (w .state .settings ≡ settings) × ((i : ℕ) → i < j → SettledAt i w)
 
     merged-settled : (j : ℕ) (w : Work S A) → Settled j w → Settled (suc j) (merge-level j w)
     unfolding Settled merge-level merge-state
-    merged-settled j w p = (p .0, λ i a b. go i a b (ℕ-discrete i j))
+    merged-settled j w p = (p .0, λ i a. go i a (ℕ-discrete i j))
       where
-        go : (i : ℕ) → 1 ≤ i → i < suc j → Dec (i ≡ j) → due settings t i (level i (merge-state j (w .state))) ≡ false
-        go i a b (yes e) = rw e (due-empty settings t j (level j (merge-state j (w .state))) (merge-empties j (w .state)))
-        go i a b (no e) = rw (merge-other j i (w .state) e (omega arith)) (p .1 i a (omega arith))
+        go : (i : ℕ) → i < suc j → Dec (i ≡ j) → SettledAt i (merge-level j w)
+        go i a (yes e) b = rw e (due-empty settings t j (level j (merge-state j (w .state))) (rw e at b) (merge-empties j (w .state)))
+        go i a (no e) b = rw (merge-other j i (w .state) e (omega arith)) (p .1 i (omega arith) b)
 
     kept-settled : (j : ℕ) (w : Work S A) → Settled j w → due settings t j (level j (w .state)) ≡ false → Settled (suc j) w
     unfolding Settled
-    kept-settled j w p h = (p .0, λ i a b. go i a b (ℕ-discrete i j))
+    kept-settled j w p h = (p .0, λ i a. go i a (ℕ-discrete i j))
       where
-        go : (i : ℕ) → 1 ≤ i → i < suc j → Dec (i ≡ j) → due settings t i (level i (w .state)) ≡ false
-        go i a b (yes e) = rw e h
-        go i a b (no e) = p .1 i a (omega arith)
+        go : (i : ℕ) → i < suc j → Dec (i ≡ j) → SettledAt i w
+        go i a (yes e) b = rw e h
+        go i a (no e) b = p .1 i (omega arith) b
 
     pass-level-settled : (j : ℕ) (w : Work S A) → Settled j w → Settled (suc j) (pass-level t j w)
     unfolding pass-level Settled
@@ -67,24 +73,20 @@ module _ {S A : Type 0} where
         cond-elim (Settled (suc j)) (due (w .state .settings) t j (level j (w .state))) (merge-level j w) w
         (λ g. merged-settled j w p) (λ g. kept-settled j w p (rw (p .0) at g))
 
-  pub pass-buffer-settings : (w : Work S A) → pass-buffer w .state .settings ≡ w .state .settings
-  unfolding pass-buffer merge-level merge-state
-  pass-buffer-settings w = cond-elim (λ (x : Work S A). x .state .settings ≡ w .state .settings) (buffer-due (w .state)) (merge-level 0 w) w (λ g. refl) (λ g. refl)
-
-  pass-settled : (t : ℕ) (w : Work S A) → Settled (w .state .settings) t (1 + (w .state .settings .deepest - 1)) (pass t w)
+  pass-settled : (t : ℕ) (w : Work S A) → Settled (w .state .settings) t (0 + w .state .settings .deepest) (pass t w)
   unfolding pass Settled
-  pass-settled t w = iterate-holds (pass-level t) (Settled (w .state .settings) t) (w .state .settings .deepest - 1) 1 (pass-buffer w)
-      (λ j y a b. pass-level-settled (w .state .settings) t j y) (pass-buffer-settings w, λ i a b. absurd (omega arith))
+  pass-settled t w = iterate-holds (pass-level t) (Settled (w .state .settings) t) (w .state .settings .deepest) 0 w
+      (λ j y a b. pass-level-settled (w .state .settings) t j y) (refl, λ i a b. absurd (omega arith))
 
   pub pass-settings : (t : ℕ) (w : Work S A) → pass t w .state .settings ≡ w .state .settings
   unfolding Settled
   pass-settings t w = pass-settled t w .0
 
-  -- No level from 1 to L−1 is due after a pass at t.
-  pub pass-leaves-none-due : (t : ℕ) (w : Work S A) (i : ℕ) → 1 ≤ i → i < w .state .settings .deepest
+  -- No level from 0 to L−1 is due after a pass at t.
+  pub pass-leaves-none-due : (t : ℕ) (w : Work S A) (i : ℕ) → i < w .state .settings .deepest → (i ≡ 0 → 0 < w .state .settings .buffer)
       → due (w .state .settings) t i (level i (pass t w .state)) ≡ false
   unfolding Settled
-  pass-leaves-none-due t w i a b = pass-settled t w .1 i a (omega arith)
+  pass-leaves-none-due t w i h b = pass-settled t w .1 i (omega arith) b
 
   pub never-still-due : (t : ℕ) (w : Work S A) → still-due t (pass t w .state) ≡ false
   unfolding still-due
@@ -96,4 +98,4 @@ module _ {S A : Type 0} where
       at : (i : ℕ) → 1 ≤ i → i < 1 + (s .settings .deepest - 1) → due (s .settings) t i (level i s) ≡ false
       at i p q =
           let same : s .settings ≡ w .state .settings = pass-settings t w in
-          rw same (pass-leaves-none-due t w i p (omega (arith, ap (λ (x : Settings). x .deepest) same)))
+          rw same (pass-leaves-none-due t w i (omega (arith, ap (λ (x : Settings). x .deepest) same)) (λ z. absurd (omega arith)))

@@ -93,17 +93,6 @@ module _ {S A : Type 0} (k b d : ℕ) where
   sunk-merge deepest (suc i) (u ∷ ls) h (front f a) = front f (merge-points (Keyed k b) deepest i ls a)
   sunk-merge deepest (suc i) (u ∷ ls) h (below c s) = below c (sunk-merge deepest i ls (fits-rest deepest i u ls h) s)
 
-  from-merged : (n : ℕ) (deepest : Bool) (u l : Level S (Mark A)) (ls : List (Level S (Mark A))) → Last deepest ls → NewerLevel k b u → SunkFrom n (l ∷ ls) → SunkFrom n (joined deepest u l ∷ ls)
-  from-merged zero deepest u l ls h c s = sink-newer deepest u l ls h c s
-  from-merged (suc n) deepest u l ls h c s = (joined-points (Newer k b) deepest u l c (s .0), s .1)
-
-  pub from-merge : (n : ℕ) (deepest : Bool) (i : ℕ) (ls : List (Level S (Mark A))) → Fits deepest i ls → SunkFrom n ls → SunkFrom n (merge-in deepest i ls)
-  from-merge zero deepest i ls h s = sunk-merge deepest i ls h s
-  from-merge (suc n) deepest i [] h s = absurd (omega (arith, h .0))
-  from-merge (suc n) deepest zero (u ∷ []) h s = absurd (omega (arith, h .0))
-  from-merge (suc n) deepest zero (u ∷ l ∷ ls) h s = (tt, from-merged n deepest u l ls (fits-last deepest u l ls h) (s .0) (s .1))
-  from-merge (suc n) deepest (suc i) (u ∷ ls) h s = (s .0, from-merge n deepest i ls (fits-rest deepest i u ls h) (s .1))
-
   -- The merge of level n makes one more level newer.
   pub from-advance : (n : ℕ) (deepest : Bool) (ls : List (Level S (Mark A))) → Fits deepest n ls → SunkFrom n ls → SunkFrom (suc n) (merge-in deepest n ls)
   from-advance n deepest [] h s = absurd (omega (arith, h .0))
@@ -128,16 +117,11 @@ module _ {S A : Type 0} (k b d : ℕ) where
   from-end zero (l ∷ []) e (below c s) = (c, tt)
   from-end (suc n) (l ∷ ls) e s = (s .0, from-end n ls (omega arith) (s .1))
 
-  pub from-newer : (n : ℕ) (ls : List (Level S (Mark A))) → All (NewerLevel k b) ls → SunkFrom n ls
-  from-newer zero ls a = erased a
-  from-newer (suc n) [] a = tt
-  from-newer (suc n) (l ∷ ls) a = (a .0, from-newer n ls (a .1))
-
   -- A newer write into the buffer.
-  pub from-enter : (n : ℕ) (w : Level S (Mark A)) (ls : List (Level S (Mark A))) → 0 < length ls → NewerLevel k b w → SunkFrom n ls → SunkFrom n (set ls 0 (merged w (getD ls 0 empty)))
+  pub sunk-enter : (w : Level S (Mark A)) (ls : List (Level S (Mark A))) → 0 < length ls → NewerLevel k b w → Sunk k b d ls → Sunk k b d (set ls 0 (merged w (getD ls 0 empty)))
   unfolding joined
-  from-enter n w [] h c s = absurd (omega arith)
-  from-enter n w (l ∷ ls) h c s = from-merged n false w l ls (λ e. absurd (false≢true e)) c s
+  sunk-enter w [] h c s = absurd (omega arith)
+  sunk-enter w (l ∷ ls) h c s = sink-newer false w l ls (λ e. absurd (false≢true e)) c s
 
   -- A change of the last level that brings no mark.
   pub sunk-act : (n : ℕ) (v : Level S (Mark A)) (ls : List (Level S (Mark A))) → length ls ≡ suc n → (NewerLevel k b (getD ls n empty) → NewerLevel k b v)
@@ -150,10 +134,3 @@ module _ {S A : Type 0} (k b d : ℕ) where
   sunk-act (suc n) v (l ∷ ls) e c g (erased a) = erased {ls = l ∷ set ls n v} (a .0, all-set (NewerLevel k b) ls n v (a .1) (c (all-get (NewerLevel k b) ls n empty (a .1) tt)))
   sunk-act (suc n) v (l ∷ ls) e c g (front f a) = front f (all-set (KeyedLevel k b) ls n v a (g (all-get (KeyedLevel k b) ls n empty a tt)))
   sunk-act (suc n) v (l ∷ ls) e c g (below c′ s) = below c′ (sunk-act n v ls (omega arith) c g s)
-
-  pub from-act : (j n : ℕ) (v : Level S (Mark A)) (ls : List (Level S (Mark A))) → length ls ≡ suc n → (NewerLevel k b (getD ls n empty) → NewerLevel k b v)
-      → (KeyedLevel k b (getD ls n empty) → KeyedLevel k b v) → SunkFrom j ls → SunkFrom j (set ls n v)
-  from-act zero n v ls e c g s = sunk-act n v ls e c g s
-  from-act (suc j) n v [] e c g s = absurd (omega arith)
-  from-act (suc j) zero v (l ∷ ls) e c g s = (c (s .0), s .1)
-  from-act (suc j) (suc n) v (l ∷ ls) e c g s = (s .0, from-act j n v ls (omega arith) c g (s .1))

@@ -2,7 +2,7 @@
 use mathlib.Core.Path.{_≡_}
 use mathlib.Core.Bool.{true, false}
 use mathlib.Core.List.{List, [], _∷_, _++_, map}
-use Prim.Native.Nat.{ℕ, _≤_}
+use Prim.Native.Nat.{ℕ, _+_, _/_, _≤_}
 use Rattle.settings.specs.declared.Settings.{Settings}
 use Rattle.settings.specs.Limits.{limit}
 use Rattle.settings.specs.Carried.{at-level}
@@ -46,7 +46,7 @@ F t = record { clock = t; op = flush }
 abbrev pub T : ℕ → Call Tally
 T t = record { clock = t; op = tick }
 
--- Settings, then limits from level 1 on.
+-- The limits of some levels.
 abbrev pub limits : Settings → List ℕ → List ℕ
 limits s [] = []
 limits s (i ∷ is) = limit s i ∷ limits s is
@@ -74,13 +74,13 @@ cleared =
     ∷ empty ∷ record { points = kept 5 50 3 ∷ kept 6 60 4 ∷ []; ranges = []; owed = 0 } ∷ []
 
 pub record CaseTable : Type 0 where
-  -- "● L=3 T=2 D=9: limits 3, 9. ● L=4 T=4 D=100: 4, 23, 100. ● L=3 T=10 D=10: 0, 10. ● L=6 T=2 D=1: 0, 0, 0, 0, 1."
-  pub limits-3-2-9 : limits (settings 3 2 1 9) (1 ∷ 2 ∷ []) ≡ 3 ∷ 9 ∷ []
-  pub limits-4-4-100 : limits (settings 4 4 1 100) (1 ∷ 2 ∷ 3 ∷ []) ≡ 4 ∷ 23 ∷ 100 ∷ []
-  pub limits-3-10-10 : limits (settings 3 10 1 10) (1 ∷ 2 ∷ []) ≡ 0 ∷ 10 ∷ []
-  pub limits-6-2-1 : limits (settings 6 2 1 1) (1 ∷ 2 ∷ 3 ∷ 4 ∷ 5 ∷ []) ≡ 0 ∷ 0 ∷ 0 ∷ 0 ∷ 1 ∷ []
-  -- "● L=2: the limit is D", for every T and D.
-  pub limits-2 : (t b d : ℕ) → 2 ≤ t → limits (settings 2 t b d) (1 ∷ []) ≡ d ∷ []
+  -- The ● cases of limits by request S-4, "worked out again from these rules": L=3 T=2 D=9; L=4 T=4 D=100; L=3 T=10 D=10; L=6 T=2 D=1.
+  pub limits-3-2-9 : limits (settings 3 2 1 9) (0 ∷ 1 ∷ 2 ∷ []) ≡ 1 ∷ 3 ∷ 9 ∷ []
+  pub limits-4-4-100 : limits (settings 4 4 1 100) (0 ∷ 1 ∷ 2 ∷ 3 ∷ []) ≡ 1 ∷ 5 ∷ 24 ∷ 100 ∷ []
+  pub limits-3-10-10 : limits (settings 3 10 1 10) (0 ∷ 1 ∷ 2 ∷ []) ≡ 0 ∷ 0 ∷ 10 ∷ []
+  pub limits-6-2-1 : limits (settings 6 2 1 1) (0 ∷ 1 ∷ 2 ∷ 3 ∷ 4 ∷ 5 ∷ []) ≡ 0 ∷ 0 ∷ 0 ∷ 0 ∷ 0 ∷ 1 ∷ []
+  -- ● L=2: D divided by (T + 1), then D, for every T and D.
+  pub limits-2 : (t b d : ℕ) → 2 ≤ t → limits (settings 2 t b d) (0 ∷ 1 ∷ []) ≡ d / (t + 1) ∷ d ∷ []
   -- "● N=1 L=2 T=2 B=1 D=4, then put 5 (tally 50) at 1, put 5 (51) at 2: merges 1, purged 1. ● Put 6 at 3: refused 7.
   -- ● Delete 5 at 4: purged 2. Put 6 at 5 succeeds."
   pub one-slot :
@@ -100,20 +100,24 @@ pub record CaseTable : Type 0 where
   -- "a lookup carries the latest s met so far", "and a point found deeper with a stamp at or below it is absent".
   pub latest-of-all : map (lookup cleared) (5 ∷ 6 ∷ []) ≡ absent ∷ found (tally 60 7) 4 ∷ []
   -- "Of two ranges with equal lo and hi the one left keeps the later s and the later stamp", and points are judged before that.
-  pub later-of-both : level 0 (run hall (Y 4 0 9 3 ∷ Y 5 0 9 1 ∷ [])) .ranges ≡ range 0 9 3 5 ∷ []
+  pub later-of-both : level 1 (run hall (Y 4 0 9 3 ∷ Y 5 0 9 1 ∷ [])) .ranges ≡ range 0 9 3 5 ∷ []
   pub judged-first : lookup (run (store 6 (settings 3 2 4 9)) (Y 5 0 9 5 ∷ P 5 5 50 7 ∷ Y 5 0 9 3 ∷ []) .levels) 5 ≡ found (tally 50 7) 5
   -- A range delete that acts on level L "covers a record only if its stamp is at most s".
   pub acted-up-to-the-date : map (lookup (run (store 2 (settings 2 2 1 9)) (P 1 5 50 7 ∷ P 2 6 60 7 ∷ Y 3 0 9 1 ∷ []) .levels)) (5 ∷ 6 ∷ []) ≡ absent ∷ found (tally 60 7) 2 ∷ []
   -- Request S-2: the price is put, and put anew, with the count; on level L "a put changes tally and stamp of its docket", price and count.
   pub priced : map (lookup (run hall (P 1 7 70 5 ∷ P 1 8 80 0 ∷ P 2 7 70 6 ∷ []) .levels)) (7 ∷ 8 ∷ []) ≡ found (tally 70 6) 2 ∷ found (tally 80 0) 1 ∷ []
   pub priced-anew : lookup (run (store 1 (settings 2 2 1 4)) (P 1 5 50 3 ∷ P 2 5 50 4 ∷ []) .levels) 5 ≡ found (tally 50 4) 2
-  -- Request S-3: what is carried to level 2, "the power carried is T^i"; D × (T^i − 1) passes 32 bits, in the limits and in a pass.
-  pub carried-4-4-100 : at-level (settings 4 4 8 100) 2 ≡ record { settings = settings 4 4 8 100; level = 2; power = 16; divisor = 63 }
+  -- Request S-3: what is carried to level 2, "the power carried is T^i"; D × (T^(i+1) − 1) passes 32 bits, in the limits and in a pass.
+  pub carried-4-4-100 : at-level (settings 4 4 8 100) 2 ≡ record { settings = settings 4 4 8 100; level = 2; power = 16; below = 64; divisor = 255 }
   pub limits-6-10-most :
-      limits (settings 6 10 64 4294967295) (1 ∷ 2 ∷ 3 ∷ 4 ∷ 5 ∷ []) ≡ 386550 ∷ 4252060 ∷ 42907152 ∷ 429458074 ∷ 4294967295 ∷ []
+      limits (settings 6 10 64 4294967295) (0 ∷ 1 ∷ 2 ∷ 3 ∷ 4 ∷ 5 ∷ []) ≡ 38654 ∷ 425202 ∷ 4290676 ∷ 42945420 ∷ 429492864 ∷ 4294967295 ∷ []
   pub long-term :
-      answers (store 6 (settings 3 10 2 4294967295)) (D 1 7 ∷ F 1 ∷ T 390451572 ∷ T 390451573 ∷ [])
-      ≡ accepts 0 0 ∷ accepts 1 0 ∷ accepts 0 0 ∷ accepts 1 0 ∷ []
+      answers (store 6 (settings 3 10 2 4294967295)) (D 1 7 ∷ T 38693399 ∷ T 38693400 ∷ T 425627389 ∷ T 425627390 ∷ [])
+      ≡ accepts 0 0 ∷ accepts 0 0 ∷ accepts 1 0 ∷ accepts 0 0 ∷ accepts 1 0 ∷ []
+  -- Request S-4: "The pass also merges the buffer when its owed is not 0 and clock − owed is at least the limit of level 0."
+  pub buffer-owes : answers hall (D 2 7 ∷ T 2 ∷ T 3 ∷ T 5 ∷ T 11 ∷ []) ≡ accepts 0 0 ∷ accepts 0 0 ∷ accepts 1 0 ∷ accepts 1 0 ∷ accepts 1 1 ∷ []
+  -- Limit 0 is a limit: a delete leaves the buffer in its own call, and what it found there with it; a put waits.
+  pub leaves-at-once : answers (store 6 (settings 3 10 4 10)) (P 1 5 50 7 ∷ D 1 6 ∷ T 11 ∷ []) ≡ accepts 0 0 ∷ accepts 2 0 ∷ accepts 1 1 ∷ []
   -- The script and its output, lookups apart; "each `P` line now ends with price 0 and both `G` lines print a fourth 0".
   pub script :
       answers hall (noon ++ T 5 ∷ T 11 ∷ F 10 ∷ [])

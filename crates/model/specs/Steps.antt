@@ -1,7 +1,7 @@
 -- Document 01, "Steps": merges by level, a write, the pass.
 use mathlib.Core.Bool.{Bool, false, cond, _&&_, _||_, not}
 use mathlib.Core.List.{List, [], _∷_, map}
-use Prim.Native.Nat.{ℕ, suc, _-_}
+use Prim.Native.Nat.{ℕ, zero, suc, _-_}
 use lib.Dec.{leb, ltb, eqb}
 use lib.ListN.{set}
 use Rattle.settings.specs.declared.Settings.{Settings}
@@ -125,27 +125,27 @@ module _ {S A : Type 0} where
   no-slot t (delete k) s = false
   no-slot t (delete-range lo hi date) s = false
 
-  -- The pass: "if the buffer has B records or more it is merged".
-  unfoldable pub buffer-due : State S A → Bool
-  buffer-due s = leb (s .settings .buffer) (held (level 0 s))
+-- The pass: "if the buffer has B records or more it is merged; then for i from 1 to L−1, level i is merged if it has more than its capacity".
+unfoldable pub overfull : Settings → ℕ → ℕ → Bool
+overfull settings zero n = leb (settings .buffer) n
+overfull settings (suc i) n = ltb (capacity settings (suc i)) n
 
-  -- "if it has more than its capacity, or if owed is not 0 and clock − owed is at least its limit"
+-- "or if owed is not 0 and clock − owed is at least its limit". Request S-4: "The pass also merges the buffer when its owed is not 0 and clock − owed is at
+-- least the limit of level 0."
+unfoldable pub overdue : Settings → ℕ → ℕ → ℕ → Bool
+overdue settings t i owed = not (eqb owed 0) && leb (limit settings i) (t - owed)
+
+module _ {S A : Type 0} where
   unfoldable pub due : Settings → ℕ → ℕ → Level S A → Bool
-  due settings t i l =
-      ltb (capacity settings i) (held l)
-      || (not (eqb (l .owed) 0) && leb (limit settings i) (t - l .owed))
+  due settings t i l = overfull settings i (held l) || overdue settings t i (l .owed)
 
-  -- The buffer's part of the pass.
-  unfoldable pub pass-buffer : Work S A → Work S A
-  pass-buffer w = cond (buffer-due (w .state)) (merge-level 0 w) w
-
-  -- The part of level i, at clock t.
+  -- The part of level i in the pass, at clock t.
   unfoldable pub pass-level : ℕ → ℕ → Work S A → Work S A
   pass-level t i w = cond (due (w .state .settings) t i (level i (w .state))) (merge-level i w) w
 
-  -- "then for i from 1 to L−1, level i is merged if …"
+  -- The buffer first, "then for i from 1 to L−1".
   unfoldable pub pass : ℕ → Work S A → Work S A
-  pass t w = iterate (pass-level t) 1 (w .state .settings .deepest - 1) (pass-buffer w)
+  pass t w = iterate (pass-level t) 0 (w .state .settings .deepest) w
 
   -- Refusal 8: "a level from 1 to L−1 still over capacity or limit".
   unfoldable pub still-due : ℕ → State S A → Bool

@@ -25,14 +25,11 @@ abbrev pub small : ℕ → ℕ → State (Unit {0}) Tally
 small n b = store n (settings 2 2 b 4)
 
 pub record WayTable : Type 0 where
-  -- "in the pass of the delete's own call"
+  -- The delete leaves the buffer in its own call, waits there until the limit of level 0 has passed, or goes when a write has to make room.
   pub own-pass : Meets (small 6 1) (λ v p. P 1 5 v p ∷ D 2 5 ∷ T 6 ∷ []) 0 1
-  -- "or in any later call of the list": its pass, a flush, a write that has to make room, "a put refused 7 included"
-  pub later-pass : Meets (small 6 2) (λ v p. P 1 5 v p ∷ F 1 ∷ D 2 5 ∷ P 3 6 60 7 ∷ T 6 ∷ []) 0 2
-  pub later-flush : Meets (small 6 3) (λ v p. P 1 5 v p ∷ F 1 ∷ D 2 5 ∷ F 3 ∷ T 6 ∷ []) 0 2
-  pub later-room : Meets (small 2 3) (λ v p. P 1 5 v p ∷ F 1 ∷ D 2 5 ∷ P 3 6 60 7 ∷ T 6 ∷ []) 0 2
-  pub later-full : Meets (small 2 3) (λ v p. P 1 5 v p ∷ D 2 5 ∷ P 3 5 50 7 ∷ P 3 6 60 7 ∷ P 4 7 70 7 ∷ T 6 ∷ []) 0 1
-  -- "it acted on level L directly"
+  pub waiting : Meets (small 6 3) (λ v p. P 1 5 v p ∷ F 1 ∷ D 2 5 ∷ T 6 ∷ []) 0 2
+  pub making-room : Meets (small 2 3) (λ v p. P 1 5 v p ∷ F 1 ∷ D 2 5 ∷ P 3 6 60 7 ∷ T 6 ∷ []) 0 2
+  -- It acts on level L.
   pub acted : Meets (small 1 3) (λ v p. P 1 5 v p ∷ F 1 ∷ D 2 5 ∷ T 6 ∷ []) 0 2
   pub range : Meets (small 6 1) (λ v p. P 1 5 v p ∷ R 2 4 6 ∷ T 6 ∷ []) 0 1
   -- Up to a date, which is the put's own clock: on level L under a newer put that hides it, and where the delete acts on level L.
@@ -44,10 +41,6 @@ pub record WayTable : Type 0 where
   -- So its clock can lie after that of a delete, or of a range delete "without a date".
   pub later-put : Meets (small 1 1) (λ v p. P 1 6 60 7 ∷ P 9 5 v p ∷ D 2 5 ∷ T 6 ∷ []) 1 2
   pub later-put-range : Meets (small 1 1) (λ v p. P 1 6 60 7 ∷ P 9 5 v p ∷ R 2 4 6 ∷ T 6 ∷ []) 1 2
-  -- Level 0 is merged in the delete's own call, but only to make room, before the delete's entry.
-  pub before-entry : Differ (small 3 4) (λ v p. P 1 5 v p ∷ F 1 ∷ P 1 6 60 7 ∷ D 1 6 ∷ P 1 7 70 7 ∷ D 2 5 ∷ T 6 ∷ [])
-  -- The delete waits in the buffer.
-  pub unmerged : Differ (small 6 3) (λ v p. P 1 5 v p ∷ F 1 ∷ D 2 5 ∷ T 6 ∷ [])
   -- One tick short of the term.
   pub too-early : Differ (small 6 1) (λ v p. P 1 5 v p ∷ P 1 6 60 7 ∷ P 1 7 70 7 ∷ D 2 5 ∷ T 5 ∷ [])
   -- The delete is refused, covers another docket, or came before the put.

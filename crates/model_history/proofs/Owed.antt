@@ -17,7 +17,7 @@ use Rattle.lists.proofs.Bools.{cond-elim, by-cases}
 use Rattle.model.specs.Records.{Level, Point, State, empty, level, fresh, slotless}
 use Rattle.model.specs.Merge.{release, merged, joined}
 use Rattle.model.specs.Steps.{Work, Write, put, delete, delete-range, single, begin, merge-state, merge-level, merge-all, displaced, enter-at, enter, set-points}
-use Rattle.model.specs.Steps.{wipe, act-deepest, crowded, make-room, full, write, buffer-due, due, pass-buffer, pass-level, pass, still-due}
+use Rattle.model.specs.Steps.{wipe, act-deepest, crowded, make-room, full, write, due, pass-level, pass, still-due}
 use Rattle.model.specs.Calls.{Op, written, flush, tick, Call, Outcome, early-refusal, timed, prepared, out-of-slots, finish, step, run}
 use Rattle.model.specs.Renaming.{map-level}
 use Rattle.model.proofs.Keeps.{has-room}
@@ -154,16 +154,9 @@ module _ {S A : Type 0} (deepest : ℕ) where
         rw (came-append h (merges-if (due (w .state .settings) t i (level i (w .state))) i) (passing t n (suc i) (pass-level t i w)))
         (passing-from t n (suc i) (pass-level t i w) _ (omega arith) (passing-level t i w h (omega arith) o))
 
-    passing-buffer : (w : Work S A) (h : ℕ → List ℕ) → Owes deepest (w .state) h
-        → Owes deepest (pass-buffer w .state) (came-after h (merges-if {A = A} (buffer-due (w .state)) 0))
-    unfolding pass-buffer merge-level came-after
-    passing-buffer w h o = by-cases (buffer-due (w .state)) (λ q. rw q (merging 0 (w .state) h some o)) (λ q. rw q o)
-
     passing-all : (t : ℕ) (w : Work S A) (h : ℕ → List ℕ) → Owes deepest (w .state) h → Owes deepest (pass t w .state) (came-after h (pass-events t w))
     unfolding pass
-    passing-all t w h o =
-        rw (came-append h (merges-if (buffer-due (w .state)) 0) (passing t (w .state .settings .deepest - 1) 1 (pass-buffer w)))
-        (passing-from t (w .state .settings .deepest - 1) 1 (pass-buffer w) _ (omega (arith, o .same)) (passing-buffer w h o))
+    passing-all t w h o = passing-from t (w .state .settings .deepest) 0 w h (omega (arith, o .same)) o
 
     -- A call, and a list of them.
     preparing : (t : ℕ) (op : Op A) (s : State S A) (h : ℕ → List ℕ) → Owes deepest s h → Owes deepest (prepared t op s .state) (came-after h (prepared-events t op s))

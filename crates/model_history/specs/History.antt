@@ -2,11 +2,11 @@
 -- came is worked out from what happened in the calls, one thing after the other, and not from owed.
 use mathlib.Core.Bool.{Bool, cond}
 use mathlib.Core.List.{List, [], _∷_, _++_}
-use Prim.Native.Nat.{ℕ, zero, suc, _-_}
+use Prim.Native.Nat.{ℕ, zero, suc}
 use lib.Dec.{eqb}
 use Rattle.model.specs.Records.{State, level}
 use Rattle.model.specs.Merge.{earlier}
-use Rattle.model.specs.Steps.{Work, Write, put, delete, delete-range, crowded, full, buffer-due, due, pass-buffer, pass-level}
+use Rattle.model.specs.Steps.{Work, Write, put, delete, delete-range, crowded, full, due, pass-level}
 use Rattle.model.specs.Calls.{Op, written, flush, tick, Call, early-refusal, out-of-slots, prepared, step}
 
 -- A write enters the buffer at a clock, or a level is merged into the next.
@@ -61,7 +61,7 @@ module _ {S A : Type 0} where
   passing t (suc n) i w = merges-if (due (w .state .settings) t i (level i (w .state))) i ++ passing t n (suc i) (pass-level t i w)
 
   abbrev pub pass-events : ℕ → Work S A → List (Event A)
-  pass-events t w = merges-if (buffer-due (w .state)) 0 ++ passing t (w .state .settings .deepest - 1) 1 (pass-buffer w)
+  pass-events t w = passing t (w .state .settings .deepest) 0 w
 
   -- What happens in a call: nothing where it is turned away at once, the merging alone where it is refused 7.
   unfoldable pub events : State S A → Call A → List (Event A)

@@ -1,4 +1,4 @@
-// Prints, for the settings of document 01's cases, each level's limit and capacity.
+// Prints, for the settings of the papers' cases, each level's limit and capacity.
 use settings::Bound;
 use settings::Checked;
 use settings::Settings;
@@ -30,6 +30,7 @@ fn show(deepest: u32, ratio: u32, buffer: u32, term: u32) {
         return;
     };
     io::write_all(OUT, b"\n");
+    show_level(s, 0);
     show_level(s, 1);
     show_level(s, 2);
     show_level(s, 3);
@@ -41,14 +42,18 @@ fn show_level(s: Settings, level: u32) {
     let Bound::Is(limit) = s.limit(level) else {
         return;
     };
-    let Bound::Is(capacity) = s.capacity(level) else {
-        return;
-    };
     io::write_all(OUT, b"  level ");
     io::print_decimal(OUT, level as u64);
     io::write_all(OUT, b": limit ");
     io::print_decimal(OUT, limit);
+    show_capacity(s, level);
+    io::write_all(OUT, b"\n");
+}
+
+fn show_capacity(s: Settings, level: u32) {
+    let Bound::Is(capacity) = s.capacity(level) else {
+        return;
+    };
     io::write_all(OUT, b", capacity ");
     io::print_decimal(OUT, capacity);
-    io::write_all(OUT, b"\n");
 }

@@ -6,7 +6,7 @@ use Rattle.model.specs.Records.{fresh}
 use Rattle.model.specs.Coverage.{over, covers}
 use Rattle.model.specs.Merge.{later, merged, settled, joined, freed}
 use Rattle.model.specs.Steps.{single, merge-state, merge-level, merge-all, enter-at, enter, set-points, wipe, act-deepest, crowded}
-use Rattle.model.specs.Steps.{make-room, full, write, no-slot, buffer-due, due, pass-buffer, pass-level, pass, still-due}
+use Rattle.model.specs.Steps.{make-room, full, write, no-slot, overfull, overdue, due, pass-level, pass, still-due}
 use Rattle.model.specs.Lookup.{latest, find, lookup-from}
 use Rattle.model.specs.Calls.{prepared, finish, step}
 use Rattle.tables.specs.Slots.{set-slot, slot-words}
@@ -26,7 +26,7 @@ use Rattle.script_command.specs.Cases.{prints, CaseTable}
 
 pub cases : CaseTable
 unfolding any every count select over covers sum merge iterate allowed power capacity limit fresh later merged settled joined freed single merge-state merge-level
-    merge-all enter-at enter set-points wipe act-deepest crowded make-room full write no-slot buffer-due due pass-buffer pass-level pass
+    merge-all enter-at enter set-points wipe act-deepest crowded make-room full write no-slot overfull overdue due pass-level pass
     still-due latest find lookup-from prepared finish step set-slot chain ascend level-sound levels-sound record-slots once-each chains-sound entries-fit
     levels-fit table-refusal levels-as state-as lay lay-all entry-words slot-words row-words level-table level-words free-slots made-entries made-levels
     make-tables lookup-tables call-tables digits decimal fields line-of bytes makes does finds command-step line-step prints

@@ -1,4 +1,4 @@
--- What it means that settings are allowed and that a level is inner: the named bounds, and back.
+-- What it means that settings are allowed and that a level lies from one to L−1: the named bounds, and back.
 use mathlib.Core.Path.{_≡_}
 use mathlib.Core.Bool.{true, _&&_, and-eq-true-iff}
 use Prim.Native.Nat.{ℕ, _-_, _≤_, _<_}
@@ -7,7 +7,7 @@ use borrow.Author.Tests.{leb-true, le-leb}
 use lib.Dec.{leb}
 use Rattle.settings.specs.declared.Settings.{Settings}
 use Rattle.settings.specs.Limits.{within, allowed}
-use Rattle.settings.specs.Checked.{inner}
+use Rattle.settings.specs.Checked.{level-from}
 
 -- "2 to 6", "2 to 10", "1 to 64" and "1 to 4,294,967,295".
 pub record Allowed (s : Settings) : Type 0 where
@@ -20,10 +20,10 @@ pub record Allowed (s : Settings) : Type 0 where
   pub term-low : 1 ≤ s .term
   pub term-high : s .term ≤ 4294967295
 
--- Levels 1 to L−1.
-pub record Inner (s : Settings) (i : ℕ) : Type 0 where
+-- Levels low to L−1.
+pub record LevelFrom (low : ℕ) (s : Settings) (i : ℕ) : Type 0 where
   pub settings : Allowed s
-  pub level-low : 1 ≤ i
+  pub level-low : low ≤ i
   pub level-high : i < s .deepest
 
 pub within-bounds : (low x high : ℕ) → within low x high ≡ true → (low ≤ x) × (x ≤ high)
@@ -68,24 +68,18 @@ allowed-true s a =
     let term = within-true 1 (s .term) 4294967295 (a .term-low) (a .term-high) in
     rw (deepest, ratio, buffer, term)
 
-pub inner-allowed : (s : Settings) (i : ℕ) → inner s i ≡ true → allowed s ≡ true
-inner-allowed s i e = and-eq-true-iff (allowed s) (within 1 i (s .deepest - 1)) .0 e .0
+module _ (low : ℕ) (s : Settings) (i : ℕ) where
+  pub level-from-allowed : level-from low s i ≡ true → allowed s ≡ true
+  level-from-allowed e = and-eq-true-iff (allowed s) (within low i (s .deepest - 1)) .0 e .0
 
-pub inner-bounds : (s : Settings) (i : ℕ) → inner s i ≡ true → Inner s i
-inner-bounds s i e =
-    let both = and-eq-true-iff (allowed s) (within 1 i (s .deepest - 1)) .0 e in
-    let a = allowed-bounds s (both .0) in
-    let l = within-bounds 1 i (s .deepest - 1) (both .1) in
-    record { settings = a; level-low = l .0; level-high = omega arith }
+  pub level-from-bounds : level-from low s i ≡ true → LevelFrom low s i
+  level-from-bounds e =
+      let both = and-eq-true-iff (allowed s) (within low i (s .deepest - 1)) .0 e in
+      let a = allowed-bounds s (both .0) in
+      let l = within-bounds low i (s .deepest - 1) (both .1) in
+      record { settings = a; level-low = l .0; level-high = omega arith }
 
-pub inner-true : (s : Settings) (i : ℕ) → Inner s i → inner s i ≡ true
-inner-true s i n =
-    and-eq-true-iff (allowed s) (within 1 i (s .deepest - 1)) .1
-    (allowed-true s (n .settings), within-true 1 i (s .deepest - 1) (n .level-low) (omega arith))
-
--- Level L−1 is inner in all allowed settings.
-pub inner-last : (s : Settings) → allowed s ≡ true → inner s (s .deepest - 1) ≡ true
-inner-last s e =
-    let a = allowed-bounds s e in
-    inner-true s (s .deepest - 1)
-    (record { settings = a; level-low = omega arith; level-high = omega arith })
+  pub level-from-true : LevelFrom low s i → level-from low s i ≡ true
+  level-from-true n =
+      and-eq-true-iff (allowed s) (within low i (s .deepest - 1)) .1
+      (allowed-true s (n .settings), within-true low i (s .deepest - 1) (n .level-low) (omega arith))

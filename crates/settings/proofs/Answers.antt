@@ -7,7 +7,7 @@ use Rattle.settings.specs.declared.Settings.{Settings}
 use Rattle.settings.specs.declared.Checked.the-variants.{Accepted, Refused}
 use Rattle.settings.specs.declared.Bound.the-variants.{Is, Nothing}
 use Rattle.settings.specs.Limits.{allowed, capacity, limit}
-use Rattle.settings.specs.Checked.{checkedOf, inner, limitOf, capacityOf}
+use Rattle.settings.specs.Checked.{checkedOf, level-from, limitOf, capacityOf}
 
 module _ (s : Settings) where
   pub checked-accepted : allowed s ≡ true → checkedOf s ≡ Accepted s
@@ -37,18 +37,18 @@ module _ (s : Settings) where
   accepted-same t r = let b = checked-accepted (accepted-settings t r) in cc
 
 module _ (s : Settings) (i : ℕ) where
-  pub limitOf-inner : inner s i ≡ true → limitOf s i ≡ Is (limit s i)
+  pub limitOf-level : level-from 0 s i ≡ true → limitOf s i ≡ Is (limit s i)
   unfolding limitOf
-  limitOf-inner e = rw e
+  limitOf-level e = rw e
 
-  pub limitOf-outer : inner s i ≡ false → limitOf s i ≡ Nothing
+  pub limitOf-other : level-from 0 s i ≡ false → limitOf s i ≡ Nothing
   unfolding limitOf
-  limitOf-outer e = rw e
+  limitOf-other e = rw e
 
-  pub capacityOf-inner : inner s i ≡ true → capacityOf s i ≡ Is (capacity s i)
+  pub capacityOf-level : level-from 1 s i ≡ true → capacityOf s i ≡ Is (capacity s i)
   unfolding capacityOf
-  capacityOf-inner e = rw e
+  capacityOf-level e = rw e
 
-  pub capacityOf-outer : inner s i ≡ false → capacityOf s i ≡ Nothing
+  pub capacityOf-other : level-from 1 s i ≡ false → capacityOf s i ≡ Nothing
   unfolding capacityOf
-  capacityOf-outer e = rw e
+  capacityOf-other e = rw e

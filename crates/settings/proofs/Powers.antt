@@ -1,7 +1,7 @@
 -- The laws of T^i, which the capacities and the limits lean on.
 use mathlib.Core.Path.{_≡_}
 use Prim.Native.Nat.{ℕ, _+_, _*_, _≤_}
-use native.Mathlib.Nat.{le-trans, pow-zero, pow-suc, pow-le-pow-left, pow-le-pow-right}
+use native.Mathlib.Nat.{le-trans, mul-le-mul, pow-zero, pow-suc, pow-le-pow-left, pow-le-pow-right}
 use native.Mathlib.Numerals.{add-one}
 use native.Mathlib.Omega.{arith}
 use lib.Dec.{lit<}
@@ -37,3 +37,7 @@ unfolding power
 power-fits s a i h =
     le-trans (pow-le-pow-left (a .ratio-high) i)
     (pow-le-pow-right {n = 10} (lit< tt) {i = i} {j = 6} (omega arith))
+
+-- Multiplied once, a number that is no more still fits.
+pub once-fits : (s : Settings) → Allowed s → (p : ℕ) → p ≤ 1000000 → p * s .ratio ≤ 1000000 * 10
+once-fits s a p h = mul-le-mul {n₂ = 1000000} {m₂ = 10} h (a .ratio-high)

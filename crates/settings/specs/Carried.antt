@@ -1,18 +1,14 @@
 -- Request S-3, "One power carried down the levels": what the pass has with it at each level.
 use mathlib.Core.Path.{_≡_}
 use mathlib.Core.Bool.{true}
-use Prim.Native.Nat.{ℕ, _-_, _<_}
+use Prim.Native.Nat.{ℕ, _+_, _-_, _<_}
 use Rattle.settings.specs.declared.Settings.{Settings}
 use Rattle.settings.specs.declared.LevelSettings.{LevelSettings}
 use Rattle.settings.specs.Limits.{allowed, power}
 
--- Document 01's "(T^i − 1)": a level's limit is the term times its own, divided by that of level L−1.
-abbrev pub share : Settings → ℕ → ℕ
-share s i = power s i - 1
-
--- "the power carried is T^i"; with it, worked out once, what every limit is divided by.
+-- "the power carried is T^i"; "multiply once" gives T^(i+1), which the limit takes and the level below carries. With them, worked out once, what every limit is divided by.
 abbrev pub at-level : Settings → ℕ → LevelSettings
-at-level s i = record { settings = s; level = i; power = power s i; divisor = share s (s .deepest - 1) }
+at-level s i = record { settings = s; level = i; power = power s i; below = power s (i + 1); divisor = power s (s .deepest) - 1 }
 
 -- What is carried is that of its own level, one above L, in settings that are allowed.
 pub record Carried (c : LevelSettings) : Type 0 where

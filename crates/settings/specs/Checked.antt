@@ -12,12 +12,14 @@ use Rattle.settings.specs.Limits.{within, allowed, capacity, limit}
 unfoldable pub checkedOf : Settings → Checked
 checkedOf s = cond (allowed s) (Accepted s) (Refused 6)
 
--- Only levels 1 to L−1 of allowed settings have a limit and a capacity.
-abbrev pub inner : Settings → ℕ → Bool
-inner s i = allowed s && within 1 i (s .deepest - 1)
+-- A level from low to L−1, of allowed settings.
+abbrev pub level-from : ℕ → Settings → ℕ → Bool
+level-from low s i = allowed s && within low i (s .deepest - 1)
 
+-- "The limit of level i, now from 0 to L−1".
 unfoldable pub limitOf : Settings → ℕ → Bound
-limitOf s i = cond (inner s i) (Is (limit s i)) Nothing
+limitOf s i = cond (level-from 0 s i) (Is (limit s i)) Nothing
 
+-- "Capacity of level i from 1 to L−1".
 unfoldable pub capacityOf : Settings → ℕ → Bound
-capacityOf s i = cond (inner s i) (Is (capacity s i)) Nothing
+capacityOf s i = cond (level-from 1 s i) (Is (capacity s i)) Nothing

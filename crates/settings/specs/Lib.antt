@@ -1,4 +1,4 @@
--- Document 01, "Settings and limits"; request S-3.
+-- Document 01, "Settings and limits"; requests S-3 and S-4.
 pub mod Limits
 pub mod Checked
 pub mod Carried

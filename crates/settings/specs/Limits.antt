@@ -1,6 +1,6 @@
 -- Document 01, "Settings and limits": what is allowed, and the capacity and the limit of a level.
 use mathlib.Core.Bool.{Bool, _&&_}
-use Prim.Native.Nat.{ℕ, _-_, _*_, _/_, _^_}
+use Prim.Native.Nat.{ℕ, _+_, _-_, _*_, _/_, _^_}
 use lib.Dec.{leb}
 use Rattle.settings.specs.declared.Settings.{Settings}
 
@@ -24,6 +24,6 @@ power s i = s .ratio ^ i
 unfoldable pub capacity : Settings → ℕ → ℕ
 capacity s i = s .buffer * power s i
 
--- "Limit of level i from 1 to L−1, in ticks since the delete: D × (T^i − 1) divided by (T^(L−1) − 1), rounded down."
+-- Request S-4: "The limit of level i, now from 0 to L−1, becomes D × (T^(i+1) − 1) divided by (T^L − 1), rounded down." It is "in ticks since the delete".
 unfoldable pub limit : Settings → ℕ → ℕ
-limit s i = s .term * (power s i - 1) / (power s (s .deepest - 1) - 1)
+limit s i = s .term * (power s (i + 1) - 1) / (power s (s .deepest) - 1)

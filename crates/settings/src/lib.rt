@@ -3,7 +3,7 @@ ghost use mathlib.Core.Path.{_≡_};
 ghost use mathlib.Core.Bool.{true};
 ghost use Prim.Native.Nat.{_+_, _≤_, _<_};
 ghost use Rattle.settings.specs.Limits.{within, allowed, power, capacity, limit};
-ghost use Rattle.settings.specs.Checked.{checkedOf, inner, limitOf, capacityOf};
+ghost use Rattle.settings.specs.Checked.{checkedOf, level-from, limitOf, capacityOf};
 ghost use Rattle.settings.specs.Carried.{at-level, Carried};
 
 // Document 01's ranges of L, T, B and D.
@@ -31,11 +31,13 @@ pub struct Settings {
     pub term: u32,
 }
 
-// The settings at a level, carried down from the level above: "the power carried" is T^i; T^(L−1) − 1 divides every limit.
+// The settings at a level, carried down from the level above: "the power carried" is T^i, multiplied once it is T^(i+1), the level
+// below's; T^L − 1 divides every limit.
 pub struct LevelSettings {
     pub settings: Settings,
     pub level: u32,
     pub power: u64,
+    pub below: u64,
     pub divisor: u64,
 }
 
@@ -77,21 +79,21 @@ impl Settings {
         Checked::Accepted(s)
     }
 
-    // A level's limit in ticks; the buffer, level L and settings that are not allowed have none.
+    // A level's limit in ticks; level L and settings that are not allowed have none.
     pub fn limit(self, level: u32) -> Bound
         ensures { λ r. ⌜ r ≡ limitOf self level ⌝ }
     {
-        if !self.is_inner(level) {
+        if !self.is_level_from(0, level) {
             return Bound::Nothing;
         }
         Bound::Is(self.at_level(level).limit())
     }
 
-    // A level's capacity in records, where it has one.
+    // A level's capacity in records; the buffer has none either.
     pub fn capacity(self, level: u32) -> Bound
         ensures { λ r. ⌜ r ≡ capacityOf self level ⌝ }
     {
-        if !self.is_inner(level) {
+        if !self.is_level_from(1, level) {
             return Bound::Nothing;
         }
         Bound::Is(self.at_level(level).capacity())
@@ -103,11 +105,13 @@ impl Settings {
         requires { ⌜ level < self .deepest ⌝ }
         ensures { λ r. ⌜ r ≡ at-level self level ⌝ }
     {
-        let last = self.power(self.deepest - 1);
+        let last = self.power(self.deepest);
+        let power = self.power(level);
         LevelSettings {
             settings: self,
             level: level,
-            power: self.power(level),
+            power: power,
+            below: power * self.ratio as u64,
             divisor: last - 1,
         }
     }
@@ -127,14 +131,14 @@ impl Settings {
         in_range(TERM_LOW, self.term, TERM_HIGH)
     }
 
-    fn is_inner(self, level: u32) -> bool
-        ensures { λ r. ⌜ r ≡ inner self level ⌝ }
+    fn is_level_from(self, low: u32, level: u32) -> bool
+        ensures { λ r. ⌜ r ≡ level-from low self level ⌝ }
     {
         // Asked first: with an L of 0 the subtraction would wrap.
         if !self.is_allowed() {
             return false;
         }
-        in_range(1, level, self.deepest - 1)
+        in_range(low, level, self.deepest - 1)
     }
 
     // T^i; a level is shallow enough that no product wraps.
@@ -157,15 +161,15 @@ impl LevelSettings {
     // The settings at the level below: multiplied once.
     pub fn next(self) -> LevelSettings
         requires { ⌜ Carried self ⌝ }
-        requires { ⌜ self .level + 1 < self .settings .deepest ⌝ }
         ensures { λ r. ⌜ r ≡ at-level (self .settings) (self .level + 1) ⌝ }
     {
         let settings = self.settings;
-        let power = self.power * settings.ratio as u64;
+        let below = self.below * settings.ratio as u64;
         LevelSettings {
             settings: settings,
             level: self.level + 1,
-            power: power,
+            power: self.below,
+            below: below,
             divisor: self.divisor,
         }
     }
@@ -175,8 +179,8 @@ impl LevelSettings {
         requires { ⌜ Carried self ⌝ }
         ensures { λ r. ⌜ r ≡ limit (self .settings) (self .level) ⌝ }
     {
-        let share = self.power - 1;
-        // In 64 bits, since D × (T^i − 1) can pass 32.
+        let share = self.below - 1;
+        // In 64 bits, since D × (T^(i+1) − 1) can pass 32.
         let product = self.settings.term as u64 * share;
         product / self.divisor
     }

@@ -1,7 +1,7 @@
 -- `settings::LevelSettings::limit`: the product fits 64 bits, and the divisor carried is not 0.
 use native.Mathlib.Omega.{arith}
 use borrow.Author.Needs.{needs}
-use Rattle.settings.proofs.Carried.{carried-limit, carried-power-fits, carried-product-fits, carried-divides}
+use Rattle.settings.proofs.Carried.{carried-limit, carried-below-fits, carried-product-fits, carried-divides}
 use Rattle.settings.proofs.LevelSettings.limit.Statement.{statement}
 use Rattle.settings.proofs.LevelSettings.limit.Tie as tie
 
@@ -10,7 +10,7 @@ abbrev entry : tie.After-struct-known2 → tie.Start
 entry c = c .before .before
 
 sub-share : tie.Need-sub-share
-sub-share c = omega (arith, carried-power-fits (c .before .args .self) (c .before .pre))
+sub-share c = omega (arith, carried-below-fits (c .before .args .self) (c .before .pre))
 
 mul-product : tie.Need-mul-product
 mul-product c = omega (arith, carried-product-fits (entry c .args .self) (entry c .pre))
