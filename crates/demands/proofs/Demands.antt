@@ -3,7 +3,7 @@ use mathlib.Core.Path.{_≡_}
 use mathlib.Core.Logic.{_↔_, _≢_}
 use mathlib.Core.Bool.{true, false}
 use mathlib.Core.List.{List, map}
-use Prim.Native.Nat.{ℕ, _+_, _<_, _≤_}
+use Prim.Native.Nat.{ℕ, _+_, _-_, _*_, _^_, _<_, _≤_}
 use lib.ListN.{length, getD, take}
 use Rattle.settings.specs.declared.Settings.{Settings}
 use Rattle.settings.specs.Limits.{allowed}
@@ -173,6 +173,12 @@ module _ (w : Tables) (c : Call Tally) where
   pub accepted-settles : Fits32 (w .entries) → call-tables w c .answer .refusal ≡ 0 → (i : ℕ) → i < settings-of (w .levels) .deepest
       → Settled (settings-of (w .levels)) (c .clock) i (level-row (call-tables w c .tables .levels) i)
   accepted-settles = accepted.accepted-settles w c
+
+  -- "Limit 0 is a limit": where D × (T − 1) is below T^L − 1 the buffer owes nothing after an accepted call, so that every delete that enters leaves it in its own call.
+  pub leaves-at-once : Fits32 (w .entries) → call-tables w c .answer .refusal ≡ 0
+      → settings-of (w .levels) .term * (settings-of (w .levels) .ratio - 1) < settings-of (w .levels) .ratio ^ settings-of (w .levels) .deepest - 1
+      → level-row (call-tables w c .tables .levels) 0 .owed ≡ 0
+  leaves-at-once = accepted.leaves-at-once w c
 
 -- "which slot a record occupies, and with it the order of the free chain; neither may hang on a tally", and no other word or answer does: from tables of any
 -- content that differ in the tallies of puts alone, count and price, lists that differ in tallies alone leave tables that do.

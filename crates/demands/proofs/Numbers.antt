@@ -1,17 +1,19 @@
 -- What an accepted call counts and leaves, by the rows of the level table: they are those of the state that the tables read as.
 use mathlib.Core.Path.{_≡_, refl, sym, ap, _∙_}
+use mathlib.Core.Logic.{_≢_}
 use mathlib.Core.Bool.{true, false, _&&_, not}
 use mathlib.Core.List.{List, [], _∷_}
-use Prim.Native.Nat.{ℕ, zero, suc, _+_, _-_, _<_, _≤_}
+use Prim.Native.Nat.{ℕ, zero, suc, _+_, _-_, _*_, _^_, _<_, _≤_}
 use native.Mathlib.Omega.{arith}
-use lib.Dec.{eqb, leb, ltb}
+use lib.Dec.{eqb, leb}
 use lib.ListN.{length, getD}
 use borrow.Author.Tests.{ltb-false, leb-false, eq-eqb, ne-eqb}
 use Rattle.lists.specs.Lists.{sum, iterate}
 use Rattle.lists.proofs.Bools.{or-false-left, or-false-right, and-second-false}
 use Rattle.settings.specs.declared.Settings.{Settings}
-use Rattle.settings.specs.Limits.{capacity, limit}
+use Rattle.settings.specs.Limits.{allowed, capacity, limit}
 use Rattle.settings.proofs.Allowed.{allowed-bounds}
+use Rattle.settings.proofs.Facts.{limit-facts}
 use Rattle.model.specs.declared.Tally.{Tally}
 use Rattle.model.specs.Records.{Level, State, empty, level, held, held-all}
 use Rattle.model.specs.Steps.{overfull, overdue, due}
@@ -127,3 +129,15 @@ module _ (w : Tables) (c : Call Tally) (fits : Fits32 (w .entries)) (ok : call-t
       let row : level-row (call-tables w c .tables .levels) i ≡ row-of-level (level i after) =
       ap (λ (r : Called). level-row (r .tables .levels) i) called ∙ level-row-at after i inside in
       rw (row, ← same-settings) (not-due (p .settings) (c .clock) i (level i after) (model.accepted-settles p c deep accept i below (λ z. some)))
+
+  -- With limit 0 nothing waits in the buffer.
+  pub leaves-at-once : settings-of (w .levels) .term * (settings-of (w .levels) .ratio - 1) < settings-of (w .levels) .ratio ^ settings-of (w .levels) .deepest - 1
+      → level-row (call-tables w c .tables .levels) 0 .owed ≡ 0
+  leaves-at-once short =
+      let settled = accepted-settles 0 (omega (arith, deep, ap (λ (s : Settings). s .deepest) same-settings)) in
+      let none = limit-facts (settings-of (w .levels)) (sym (ap allowed same-settings) ∙ formed .settings-ok) .none short in
+      by-zero (level-row (call-tables w c .tables .levels) 0 .owed) (λ z. omega (arith, settled .in-limit z, none))
+    where
+      by-zero : (k : ℕ) → (k ≢ 0 → ⊥) → k ≡ 0
+      by-zero zero h = refl
+      by-zero (suc k) h = absurd (h (omega arith))

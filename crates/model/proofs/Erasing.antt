@@ -14,7 +14,7 @@ use Rattle.lists.proofs.Bools.{cond-elim, both-false, or-right}
 use Rattle.lists.proofs.Loops.{iterate-holds}
 use Rattle.model.specs.Records.{Level, State, level, held}
 use Rattle.model.specs.Steps.{Work, begin, merge-state, merge-level, merge-all, overfull, overdue, due, pass-level, pass}
-use Rattle.model.specs.Calls.{tick, Call, Outcome, timed, prepared, step, run}
+use Rattle.model.specs.Calls.{tick, Call, Outcome, prepared, step, run}
 use Rattle.model.proofs.Keeps.{Kept, pass-keeps, prepared-kept}
 use Rattle.model.proofs.Form.{Formed, formed-kept}
 use Rattle.model.proofs.StepView.{worked, accepted-outcome, StepView, turned-away, refused-7, passed, step-view}

@@ -7,7 +7,7 @@ use native.Mathlib.Omega.{arith}
 use lib.Dec.{ltb, eqb}
 use borrow.Author.Tests.{eqb-false, ltb-false}
 use Rattle.lists.specs.All.{All}
-use Rattle.lists.proofs.Bools.{by-cases, or-false-left, or-false-right}
+use Rattle.lists.proofs.Bools.{or-false-left, or-false-right}
 use Rattle.model.specs.Records.{State}
 use Rattle.model.specs.Steps.{merge-state, merge-all}
 use Rattle.model.specs.Calls.{Call, Outcome, early-refusal, step, run}
@@ -26,20 +26,6 @@ module _ {S A : Type 0} where
   pub merge-all-clock : (s : State S A) → 0 < s .settings .deepest → merge-all s .state .clock ≡ s .clock
   merge-all-clock s h = merge-all-keeps (λ (x : State S A). (x .clock ≡ s .clock) × (0 < x .settings .deepest)) (λ x p. p .1)
       (λ i x l p. unfold merge-state in p) s (refl, h) .0 .0
-
-  pub step-clock : (s : State S A) (c : Call A) → 0 < s .settings .deepest → s .clock ≤ step s c .state .clock
-  step-clock s c h = go (step s c) (step-view s c)
-    where
-      go : (r : Outcome S A) → StepView s c r → s .clock ≤ r .state .clock
-      go r (turned-away e) = omega arith
-      go r (refused-7 e f) = omega (arith, merge-all-clock s h)
-      go r (passed e f) = omega (arith, accepted-clock s c, let-in-clock (s .clock) c e .1)
-
-  -- A call before the last clock changes nothing: only the others have to keep a property.
-  pub step-later : (P : State S A → Type 0) (s : State S A) (c : Call A) → (s .clock ≤ c .clock → Kept P c) → P s → P (step s c .state)
-  unfolding step
-  step-later P s c k p = by-cases (eqb (early-refusal (s .clock) c) 0)
-      (λ e. step-keeps P c (k (let-in-clock (s .clock) c e .1)) s p) (λ e. rw e p)
 
 -- P t: what holds of a store at clock t, and at every later clock.
 module _ {S A : Type 0} (P : ℕ → State S A → Type 0) (later : (t u : ℕ) (s : State S A) → t ≤ u → P t s → P u s)

@@ -1,4 +1,4 @@
--- What it means that settings are allowed and that a level lies from one to L−1: the named bounds, and back.
+-- What it means that settings are allowed and that a level lies from one to L−1: the named bounds; and back of one range.
 use mathlib.Core.Path.{_≡_}
 use mathlib.Core.Bool.{true, _&&_, and-eq-true-iff}
 use Prim.Native.Nat.{ℕ, _-_, _≤_, _<_}
@@ -59,15 +59,6 @@ allowed-bounds s e =
       term-high = t .1;
     }
 
-pub allowed-true : (s : Settings) → Allowed s → allowed s ≡ true
-unfolding allowed
-allowed-true s a =
-    let deepest = within-true 2 (s .deepest) 6 (a .deepest-low) (a .deepest-high) in
-    let ratio = within-true 2 (s .ratio) 10 (a .ratio-low) (a .ratio-high) in
-    let buffer = within-true 1 (s .buffer) 64 (a .buffer-low) (a .buffer-high) in
-    let term = within-true 1 (s .term) 4294967295 (a .term-low) (a .term-high) in
-    rw (deepest, ratio, buffer, term)
-
 module _ (low : ℕ) (s : Settings) (i : ℕ) where
   pub level-from-allowed : level-from low s i ≡ true → allowed s ≡ true
   level-from-allowed e = and-eq-true-iff (allowed s) (within low i (s .deepest - 1)) .0 e .0
@@ -78,8 +69,3 @@ module _ (low : ℕ) (s : Settings) (i : ℕ) where
       let a = allowed-bounds s (both .0) in
       let l = within-bounds low i (s .deepest - 1) (both .1) in
       record { settings = a; level-low = l .0; level-high = omega arith }
-
-  pub level-from-true : LevelFrom low s i → level-from low s i ≡ true
-  level-from-true n =
-      and-eq-true-iff (allowed s) (within low i (s .deepest - 1)) .1
-      (allowed-true s (n .settings), within-true low i (s .deepest - 1) (n .level-low) (omega arith))

@@ -11,16 +11,19 @@ use Rattle.settings.proofs.Allowed.{allowed-bounds}
 use Rattle.settings.proofs.Powers.{power-none, power-next}
 use Rattle.settings.proofs.Capacities.{capacity-fits}
 use Rattle.settings.proofs.Carried.{limit-powers, capacity-power}
-use Rattle.settings.proofs.Limits.{withTerm, limit-divisor, limit-product-fits, limit-last, limit-mono, limit-term, limit-raise}
+use Rattle.settings.proofs.Limits.{withTerm, limit-divisor, limit-product-fits, limit-last, limit-mono, limit-term, limit-raise, limit-none}
 
--- Level L−1 has the term; limits rise with the level, from level 0 on; none is above the term; a longer term lowers none.
+-- Level L−1 has the term; limits rise with the level, from level 0 on; none is above the term; a longer term lowers none; level 0 has 0 where D × (T − 1) is below
+-- T^L − 1.
 pub record LimitFacts (s : Settings) : Type 0 where
   pub last : limit s (s .deepest - 1) ≡ s .term
   pub rise : (i j : ℕ) → i ≤ j → limit s i ≤ limit s j
   pub most : (i : ℕ) → i < s .deepest → limit s i ≤ s .term
   pub raise : (d e : ℕ) → d ≤ e → (i : ℕ) → limit (withTerm s d) i ≤ limit (withTerm s e) i
+  pub none : s .term * (s .ratio - 1) < s .ratio ^ s .deepest - 1 → limit s 0 ≡ 0
 
 pub limit-facts : (s : Settings) → allowed s ≡ true → LimitFacts s
+unfolding power
 limit-facts s e =
     let a = allowed-bounds s e in
     let two = a .ratio-low in
@@ -30,6 +33,7 @@ limit-facts s e =
       rise = limit-mono s two deep;
       most = limit-term s two deep;
       raise = limit-raise s two deep;
+      none = limit-none s two deep;
     }
 
 -- Request S-3: "carry the power from the level above": 1 at level 0, where there is none.

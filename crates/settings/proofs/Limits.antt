@@ -1,12 +1,12 @@
 -- The laws of a level's limit, for all L and T together and every D.
 use mathlib.Core.Path.{_≡_, ap, _∙_}
 use Prim.Native.Nat.{ℕ, _+_, _-_, _*_, _/_, _≤_, _<_}
-use native.Mathlib.Nat.{le-trans, le-div-iff-mul-le, div-mul-le-self, mul-div-cancel, mul-le-mul, mul-le-mul-left, mul-le-mul-right, mul-sub, add-mul, mul-div-mul-right}
+use native.Mathlib.Nat.{le-trans, le-div-iff-mul-le, div-mul-le-self, mul-div-cancel, mul-le-mul, mul-le-mul-left, mul-le-mul-right, mul-sub, add-mul, mul-div-mul-right, div-eq-of-lt}
 use native.Mathlib.Omega.{arith}
 use Rattle.settings.specs.declared.Settings.{Settings}
 use Rattle.settings.specs.Limits.{power, limit}
 use Rattle.settings.proofs.Allowed.{Allowed}
-use Rattle.settings.proofs.Powers.{power-none, power-next, power-mono, power-two, power-fits}
+use Rattle.settings.proofs.Powers.{power-next, power-first, power-mono, power-two, power-fits}
 
 -- The same settings with another term.
 abbrev pub withTerm : Settings → ℕ → Settings
@@ -32,10 +32,15 @@ module _ (s : Settings) (two : 2 ≤ s .ratio) (deep : 2 ≤ s .deepest) where
   unfolding limit power
   limit-first e =
       let r : ℕ = s .ratio in
-      let one : power s 1 ≡ r = power-next s 0 ∙ ap (λ p. p * r) (power-none s) ∙ omega arith in
+      let one = power-first s in
       let squared : power s 2 ≡ r * r = power-next s 1 ∙ ap (λ p. p * r) one in
       let product : power s 2 - 1 ≡ (r + 1) * (r - 1) = omega (arith, squared, mul-sub (r + 1) r 1, add-mul r 1 r) in
       rw (e, one, product) (mul-div-mul-right (s .term) (r + 1) (omega arith))
+
+  -- Where D × (T − 1) is below T^L − 1, level 0 has the limit 0.
+  pub limit-none : s .term * (s .ratio - 1) < power s (s .deepest) - 1 → limit s 0 ≡ 0
+  unfolding limit
+  limit-none h = div-eq-of-lt (rw (power-first s) h)
 
   -- Limits rise with the level.
   pub limit-mono : (i j : ℕ) → i ≤ j → limit s i ≤ limit s j

@@ -17,6 +17,9 @@ pub power-next : (s : Settings) (i : ℕ) → power s (i + 1) ≡ power s i * s 
 unfolding power
 power-next s i = rw (add-one, pow-suc)
 
+pub power-first : (s : Settings) → power s 1 ≡ s .ratio
+power-first s = rw (power-next s 0, power-none) (omega arith)
+
 module _ (s : Settings) (two : 2 ≤ s .ratio) where
   pub power-mono : (i j : ℕ) → i ≤ j → power s i ≤ power s j
   unfolding power
@@ -26,10 +29,7 @@ module _ (s : Settings) (two : 2 ≤ s .ratio) where
   power-one i = omega (arith, power-mono 0 i (omega arith), power-none s)
 
   pub power-two : (i : ℕ) → 1 ≤ i → 2 ≤ power s i
-  power-two i h = omega (arith, power-mono 1 i h, first)
-    where
-      first : power s 1 ≡ s .ratio
-      first = rw (power-next s 0, power-none) (omega arith)
+  power-two i h = omega (arith, power-mono 1 i h, power-first s)
 
 -- Within the ranges no power of a level passes 10^6.
 pub power-fits : (s : Settings) → Allowed s → (i : ℕ) → i ≤ s .deepest → power s i ≤ 1000000
