@@ -96,7 +96,7 @@ reached c g h =
 carries : (c : tie.Then1 Inv-loop μ-loop) → Carried (turn c .loop .at)
 carries c =
     let loop = turn c .loop in
-    carried-at (settings-at (turn c)) (loop .at .level) (settings-ok (settings-read (turn c)), c .if1 .taken) (loop .at) (loop .inv .2)
+    carried-at (settings-at (turn c)) (loop .at .level) (settings-ok (settings-read (turn c)), omega (arith, c .if1 .taken)) (loop .at) (loop .inv .2)
 
 settings-stay : (c : tie.At-loop Inv-loop μ-loop) → c .loop .at .settings ≡ settings-at c
 settings-stay c = ap (λ (x : LevelSettings). x .settings) (c .loop .inv .2)
