@@ -136,6 +136,7 @@ unfoldable pub overdue : Settings → ℕ → ℕ → ℕ → Bool
 overdue settings t i owed = not (eqb owed 0) && leb (limit settings i) (t - owed)
 
 module _ {S A : Type 0} where
+  -- Whether level i is merged at clock t.
   unfoldable pub due : Settings → ℕ → ℕ → Level S A → Bool
   due settings t i l = overfull settings i (held l) || overdue settings t i (l .owed)
 

@@ -1,4 +1,4 @@
--- Demand 3's premises, worked: a list for each way in which they are met, and beside it lists that lack one of them, where the erased tally, count and price, still stands.
+-- Demand 3's premises, worked: lists that meet them, and lists that lack one of them, where the tally, count and price, still stands.
 use mathlib.Core.Logic.{_≢_}
 use mathlib.Core.List.{List, [], _∷_}
 use Prim.Native.Nat.{ℕ}
