@@ -105,11 +105,11 @@ class Random(unittest.TestCase):
 
 
 def covers(call, docket, clock):
-    """A delete covers a put of a docket; one with a date asks for the put's clock too."""
-    letter, _, *numbers = call
+    """A delete covers a put of a docket; one with a date, which is not its own clock, asks for the put's clock too."""
+    letter, at, *numbers = call
     if letter == "D":
         return numbers[0] == docket
-    return letter in "RY" and numbers[0] <= docket <= numbers[1] and (letter == "R" or clock <= numbers[2])
+    return letter in "RY" and numbers[0] <= docket <= numbers[1] and (letter == "R" or numbers[2] == at or clock <= numbers[2])
 
 
 class Twins(unittest.TestCase):

@@ -45,9 +45,12 @@ static bool is_write(const struct call *c) { return c->kind == PUT || c->kind ==
 
 static uint32_t last_docket(const struct call *c) { return is_range(c) ? c->hi : c->lo; }
 
+/* Whether a delete has a date that is not its own clock: a range delete without a date has its clock as the date. */
+static bool is_dated(const struct call *c) { return c->kind == DELETE_RANGE_DATED && c->date != c->clock; }
+
 /* Only a date asks for the clock of a put. */
 static bool covers(const struct call *c, uint32_t docket, uint32_t clock) {
-    return c->lo <= docket && docket <= last_docket(c) && (c->kind != DELETE_RANGE_DATED || clock <= c->date);
+    return c->lo <= docket && docket <= last_docket(c) && (!is_dated(c) || clock <= c->date);
 }
 
 static uint32_t earlier(uint32_t a, uint32_t b) { return a == 0 || (b != 0 && b < a) ? b : a; }
@@ -58,7 +61,7 @@ static bool is_over(const struct twins *t, uint32_t deleted, uint32_t clock) { r
 static void follow(struct twins *t, const struct call *c) {
     if (is_write(c) && c->kind != PUT && covers(c, t->docket, t->clock)) {
         t->deleted = earlier(t->deleted, c->clock);
-        if (c->kind != DELETE_RANGE_DATED || c->date == c->clock) t->undated = earlier(t->undated, c->clock);
+        if (!is_dated(c)) t->undated = earlier(t->undated, c->clock);
     }
     if (t->erased || !is_over(t, t->deleted, c->clock)) return;
     t->erased = true, t->dated = !is_over(t, t->undated, c->clock);
