@@ -38,6 +38,6 @@ power-fits s a i h =
     le-trans (pow-le-pow-left (a .ratio-high) i)
     (pow-le-pow-right {n = 10} (lit< tt) {i = i} {j = 6} (omega arith))
 
--- Multiplied once, a number that is no more still fits.
+-- A number up to 10^6, multiplied once, fits too.
 pub once-fits : (s : Settings) → Allowed s → (p : ℕ) → p ≤ 1000000 → p * s .ratio ≤ 1000000 * 10
 once-fits s a p h = mul-le-mul {n₂ = 1000000} {m₂ = 10} h (a .ratio-high)
