@@ -1,4 +1,6 @@
 // The answers of the calls, each as one number.
+#![tactic(auto)]
+
 ghost use Rattle.std.specs.Prelude.{◌≡◌, ◌<◌, ◌≤◌};
 ghost use Rattle.lookup.specs.Lookup.{numbers};
 ghost use Rattle.c_packing.specs.Packed.{packed, answer_number, packed_wake, packed_scan};

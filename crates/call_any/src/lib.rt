@@ -1,4 +1,6 @@
 // A timed call on the two tables, of any content and operation: refused by its number, or its work is done, the pass ends it, and it counts.
+#![tactic(auto)]
+
 ghost use Rattle.std.specs.Prelude.{◌≡◌};
 ghost use Rattle.call_tables.specs.Calls.{lent, call_tables};
 ghost use Rattle.call_refusal.specs.Began.{Began};

@@ -1,4 +1,6 @@
 // How a timed call ends: refused, with its number and zeros; or with the pass, the clock, and the sum of what has gone.
+#![tactic(auto)]
+
 ghost use Rattle.std.specs.Prelude.{◌≡◌};
 ghost use Rattle.lists.specs.All.{Exists};
 ghost use Rattle.model.specs.Calls.{refusing};
@@ -11,7 +13,7 @@ use table_levels::held_all;
 use table_slots::set_clock;
 
 // A refusal's number with zeros, or 0 with the merges and the records that have gone.
-#[derive(Drop)]
+#[derive(Clone, Copy)]
 pub struct Answer {
     pub refusal: u32,
     pub merges: u32,

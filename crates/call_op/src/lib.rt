@@ -1,4 +1,6 @@
 // The operations of the timed calls: the dockets that each names, its date, and the work that it is before its pass.
+#![tactic(auto)]
+
 ghost use Rattle.std.specs.Prelude.{◌≡◌, ◌||◌, eqb, ltb};
 ghost use Rattle.model.specs.Calls.{bad_docket, bad_date, count_written};
 ghost use Rattle.check_refusal.specs.Dockets.{bad_dockets};
@@ -10,7 +12,7 @@ use table_slots::{DELETE, PUT, RANGE};
 use write_record::Record;
 
 // What a timed call does: a put of a docket and its tally, a delete of a docket, a delete of the dockets from lo to hi by a date, a flush or a tick.
-#[derive(Drop)]
+#[derive(Clone, Copy)]
 pub enum Op {
     Put(u32, Tally),
     Delete(u32),
@@ -20,14 +22,14 @@ pub enum Op {
 }
 
 // The dockets from lo to hi.
-#[derive(Drop)]
+#[derive(Clone, Copy)]
 pub struct Span {
     pub lo: u32,
     pub hi: u32,
 }
 
 // What is done before the pass: a record is written, the buffer is merged, or nothing.
-#[derive(Drop)]
+#[derive(Clone, Copy)]
 pub enum Work {
     Write(Record),
     Merge,

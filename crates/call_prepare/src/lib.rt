@@ -1,4 +1,6 @@
 // What a call does before its pass; of a write: room for it, its entry or its action on level L.
+#![tactic(auto)]
+
 ghost use Rattle.model.specs.declared.Tally.{Tally};
 ghost use Rattle.lists.specs.All.{Exists};
 ghost use Rattle.model.specs.Steps.{Write};
@@ -15,7 +17,7 @@ use write_enter::enter;
 use write_record::{Record, is_crowded};
 
 // The merges before the pass; or full, where a put finds no slot and level L lacks its docket.
-#[derive(Drop)]
+#[derive(Clone, Copy)]
 pub struct Prepared {
     pub full: bool,
     pub merges: u32,

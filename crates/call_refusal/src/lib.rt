@@ -1,4 +1,6 @@
 // What turns a timed call away at once.
+#![tactic(auto)]
+
 ghost use Rattle.std.specs.Prelude.{◌≡◌};
 ghost use Rattle.call_op.specs.Ops.{op_of};
 ghost use Rattle.call_refusal.specs.Began.{call_refusal};

@@ -1,1 +1,2 @@
 // The timed calls on the two tables as definitions; no code.
+#![tactic(auto)]

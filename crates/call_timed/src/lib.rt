@@ -1,4 +1,6 @@
 // The timed calls, each one operation of `call`.
+#![tactic(auto)]
+
 ghost use Rattle.std.specs.Prelude.{◌≡◌};
 ghost use Rattle.model.specs.Steps.{put, delete, delete_range};
 ghost use Rattle.model.specs.Calls.{flush, tick, written};

@@ -1,4 +1,6 @@
 // A chain walked with a cursor: its cells dropped, or another chain's cells put between them, in place.
+#![tactic(auto)]
+
 ghost use Rattle.std.specs.Prelude.{◌≡◌, ◌≢◌, ◌+◌, ◌<◌};
 ghost use Rattle.lists.specs.All.{Exists};
 ghost use Rattle.chain_cells.specs.Cells.{cell_at};
@@ -9,7 +11,7 @@ use chain_links::{release, set_next};
 use table_slots::{next_of, order_key};
 
 // A place in a chain: its first slot, the slot before the place (0 for none), the slot at it, and how many cells have gone.
-#[derive(Drop)]
+#[derive(Clone, Copy)]
 pub struct Cursor {
     pub head: usize,
     pub prior: usize,
@@ -18,7 +20,7 @@ pub struct Cursor {
 }
 
 // Two chains on the way to one: what is left of the upper, and a cursor in the lower.
-#[derive(Drop)]
+#[derive(Clone, Copy)]
 struct Pair {
     upper: usize,
     head: usize,

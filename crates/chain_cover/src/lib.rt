@@ -1,4 +1,6 @@
 // Which records cover a docket, or have it, and walks along a chain that ask it.
+#![tactic(auto)]
+
 ghost use Rattle.std.specs.Prelude.{◌≡◌, map};
 ghost use Rattle.model.specs.Coverage.{covers};
 ghost use Rattle.model.specs.Lookup.{latest};
@@ -17,14 +19,14 @@ use table_slots::{date_of, hi_of, lo_of, next_of};
 const NO_RANGE: u32 = 65536;
 
 // Two places in a chain of ranges, for dockets that ascend: the first range that has not ended, and the first behind it that has not.
-#[derive(Drop)]
+#[derive(Clone, Copy)]
 pub struct Front {
     pub first: usize,
     pub behind: usize,
 }
 
 // The latest date of the ranges over a docket, 0 where there is none; the last docket of the first range that has it; and the first docket of the next range.
-#[derive(Drop)]
+#[derive(Clone, Copy)]
 pub struct Latest {
     pub date: u32,
     pub last: u32,

@@ -1,4 +1,6 @@
 // One slot of a chain changed: linked to another slot, wiped and freed, or given a later date and stamp.
+#![tactic(auto)]
+
 ghost use Rattle.std.specs.Prelude.{◌≡◌, ◌<◌, max};
 ghost use Rattle.tables.specs.Slots.{InTable};
 ghost use Rattle.chain_links.specs.Links.{linked, released, later_taken};

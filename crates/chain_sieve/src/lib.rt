@@ -1,4 +1,6 @@
 // Cells of one kind dropped from a chain: deletes, all of them, points of some dockets, or one range.
+#![tactic(auto)]
+
 ghost use Rattle.std.specs.Prelude.{◌≡◌};
 ghost use Rattle.lists.specs.All.{Exists};
 ghost use Rattle.lists.specs.Lists.{select};
@@ -13,7 +15,7 @@ use chain_cover::covers;
 use table_slots::{DELETE, hi_of, kind_of, lo_of, next_of, stamp_of};
 
 // Which cells go: the deletes among points, all cells, the point of a docket, the points that the delete from lo to hi with a date covers, the range from lo to hi.
-#[derive(Drop)]
+#[derive(Clone, Copy)]
 pub enum Doomed {
     Deletes,
     All,

@@ -1,4 +1,6 @@
 // All chains checked: slot 0, the free chain and every level's, walked once over one set of marks.
+#![tactic(auto)]
+
 ghost use Rattle.std.specs.Prelude.{◌≡◌, ◌+◌, ◌*◌, ◌<◌, ◌≤◌, length};
 ghost use Rattle.tables.specs.Slots.{slots_of};
 ghost use Rattle.tables.specs.Rows.{level_length, settings_of};

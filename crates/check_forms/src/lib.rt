@@ -1,4 +1,6 @@
 // Which slots may stand in each chain: their kind, and of a record its order, its stamp and what its level owes.
+#![tactic(auto)]
+
 ghost use Rattle.std.specs.Prelude.{◌≡◌, ◌&&◌, not, leb, eqb};
 ghost use Rattle.tables.specs.Slots.{InTable, stamp_of};
 ghost use Rattle.tables.specs.Sound.{is_point, is_range, is_stamped, order_key};
@@ -10,7 +12,7 @@ use table_slots::{
 };
 
 // What a chain is for decides which rows it may have.
-#[derive(Drop)]
+#[derive(Clone, Copy)]
 pub enum Class {
     Free,
     Points,

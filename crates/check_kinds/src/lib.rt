@@ -1,4 +1,6 @@
 // What the words of a free slot and of a range delete may be. All are asked by one expression: words read between branches are addressed more slowly.
+#![tactic(auto)]
+
 ghost use Rattle.std.specs.Prelude.{◌≡◌};
 ghost use Rattle.tables.specs.Slots.{InTable};
 ghost use Rattle.tables.specs.Sound.{is_free, is_range};

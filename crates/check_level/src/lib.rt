@@ -1,4 +1,6 @@
 // One level checked: its two chains, each followed with marks, and its numbers.
+#![tactic(auto)]
+
 ghost use Rattle.std.specs.Prelude.{◌≡◌, ◌+◌, ◌*◌, ◌<◌, length};
 ghost use Rattle.tables.specs.Rows.{InRows};
 ghost use Rattle.tables.specs.Slots.{slots_of};

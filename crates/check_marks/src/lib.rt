@@ -1,4 +1,6 @@
 // One mark for each slot, eight to a byte: a set of slots that starts empty and only grows.
+#![tactic(auto)]
+
 ghost use Rattle.std.specs.Prelude.{◌≡◌, ◌*◌, ◌<◌, length};
 ghost use Rattle.check_marks.specs.Marks.{mark_of, with_mark};
 

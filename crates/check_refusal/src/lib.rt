@@ -1,4 +1,6 @@
 // Refusals 1 to 4: the soundness check of the two tables, then whether lo and hi are dockets in their order.
+#![tactic(auto)]
+
 ghost use Rattle.std.specs.Prelude.{◌≡◌};
 ghost use Rattle.tables.specs.Sound.{table_refusal};
 ghost use Rattle.check_refusal.specs.Dockets.{docket_refusal};

@@ -1,4 +1,6 @@
 // One chain followed with a mark for each slot that it passes.
+#![tactic(auto)]
+
 ghost use Rattle.std.specs.Prelude.{◌≡◌, ◌+◌, ◌*◌, ◌<◌, length};
 ghost use Rattle.tables.specs.Slots.{slots_of};
 ghost use Rattle.tables.specs.Sound.{chain_from};
@@ -10,7 +12,7 @@ use check_marks::{is_marked, mark};
 use table_slots::{has_slot, next_of, order_key};
 
 // Whether a walk found only what may stand there, and how many slots it passed.
-#[derive(Drop)]
+#[derive(Clone, Copy)]
 pub struct Walked {
     pub fits: bool,
     pub count: usize,

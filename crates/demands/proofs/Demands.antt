@@ -52,7 +52,7 @@ use Rattle.demands.proofs.LastPuts as puts
 use Rattle.demands.proofs.Events as events
 use Rattle.demands.proofs.Numbers as accepted
 use Rattle.demands.proofs.SameTables.{tallies_only, prices_only}
-use Rattle.demands.proofs.Hidden as hidden
+use Rattle.demands.proofs.HiddenWords as hidden
 use Rattle.demands.proofs.Grower as grower
 use Rattle.demands.proofs.Sleep as sleep
 use Rattle.demands.proofs.Asleep as asleep

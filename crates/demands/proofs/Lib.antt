@@ -2,7 +2,7 @@
 pub mod Full
 pub mod Merged
 pub mod SameTables
-pub mod Hidden
+pub mod HiddenWords
 pub mod Made
 pub mod LastPuts
 pub mod Events

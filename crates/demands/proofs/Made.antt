@@ -45,7 +45,7 @@ use Rattle.demands.specs.Hidden.{SameBut, without}
 use Rattle.call_tables.proofs.Runs.{words_slots, run-words, answers-words}
 use Rattle.call_tables.proofs.Refusals.{refused_exactly}
 use Rattle.demands.proofs.Full.{full_of_formed}
-use Rattle.demands.proofs.Hidden.{words_same, runs_alike, answers_alike}
+use Rattle.demands.proofs.HiddenWords.{words_same, runs_alike, answers_alike}
 
 module _ (n : ℕ) (s : Settings) (low : 1 ≤ n) (high : n ≤ 65535) (ok : allowed s ≡ true) where
   made_words : made_tables n s ≡ words n (fresh s (upto n))

@@ -14,7 +14,7 @@ use Rattle.lists.proofs.Bools.{by_cases, both_false}
 use Rattle.model.specs.declared.Tally.{Tally}
 use Rattle.tables.specs.Slots.{slot_size, slot_at, next_of, kind_of, tally_of, count_of, price_of, first_free}
 use Rattle.tables.specs.Rows.{settings_of, level_row}
-use Rattle.tables.specs.Sound.{chain, chain_from, free_chain, point_chain, range_chain, is_free, is_point, is_range, ascend, is_stamped}
+use Rattle.tables.specs.Sound.{order_key, chain, chain_from, free_chain, point_chain, range_chain, is_free, is_point, is_range, ascend, is_stamped}
 use Rattle.tables.specs.Sound.{owed_before, level_sound, levels_sound, record_slots, chains_sound, entries_fit, table_refusal}
 use Rattle.tables.specs.Placed.{read_range, point_as, level_as, levels_as, state_as, read_state}
 use Rattle.tables.proofs.Linked.{range_parts}
@@ -111,7 +111,7 @@ module _ (hides : ℕ → Bool) (only : OnlyTallies hides) (e f : List ℕ) (h :
   ascend_same : (least : ℕ) (ss : List ℕ) → ascend e least ss ≡ ascend f least ss
   unfolding ascend
   ascend_same least [] = refl
-  ascend_same least (s ∷ ss) = rw (span_same s, ascend_same _ ss)
+  ascend_same least (s ∷ ss) = rw (span_same s, ascend_same (order_key f s + 1) ss)
 
   module _ (l : List ℕ) where
     level_sound_same : (i : ℕ) → level_sound e l i ≡ level_sound f l i

@@ -1,4 +1,3 @@
--- Laws of what goes out to C, and the walk of a scan, whatever its rows are.
+-- Laws of what goes out to C.
 pub mod Numbers
 pub mod Rooms
-mod Scans

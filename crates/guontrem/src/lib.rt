@@ -1,4 +1,6 @@
 // The library for C: each call under a name of its own, its answer as one number.
+#![tactic(auto)]
+
 ghost use Rattle.std.specs.Prelude.{◌≡◌};
 ghost use Rattle.tables.specs.Sound.{table_refusal};
 ghost use Rattle.make.specs.Make.{make_tables};

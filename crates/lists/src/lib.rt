@@ -1,1 +1,2 @@
 // General laws of lists; no code.
+#![tactic(auto)]

@@ -1,4 +1,6 @@
 // Lookup of one docket in the two tables: levels from 0, up to the first that decides.
+#![tactic(auto)]
+
 ghost use Rattle.std.specs.Prelude.{◌≡◌, ◌≤◌};
 ghost use Rattle.model.specs.Lookup.{lookup};
 ghost use Rattle.tables.specs.Rows.{settings_of};
@@ -16,7 +18,7 @@ use model::Tally;
 use table_levels::{deepest_of, level_at};
 
 // What the hall's lookup answers: the number of its refusal, or else nothing, or the tally and the stamp.
-#[derive(Drop)]
+#[derive(Clone, Copy)]
 pub enum Answer {
     Refused(u32),
     Absent,
@@ -24,7 +26,7 @@ pub enum Answer {
 }
 
 // What the grower's lookup answers: the same with the count alone.
-#[derive(Drop)]
+#[derive(Clone, Copy)]
 pub enum CountAnswer {
     Refused(u32),
     Absent,
@@ -32,7 +34,7 @@ pub enum CountAnswer {
 }
 
 // What the levels hold for a docket: nothing, or the tally and the stamp.
-#[derive(Drop)]
+#[derive(Clone, Copy)]
 enum Found {
     Absent,
     Value(Tally, u32),

@@ -6,7 +6,7 @@ use native.Mathlib.Omega.{arith}
 use lib.ListN.{length}
 use Rattle.settings.proofs.Allowed.{allowed_bounds}
 use Rattle.lists.specs.All.{All}
-use Rattle.tables.specs.Slots.{entry_length}
+use Rattle.tables.specs.Slots.{entry_length, next_of}
 use Rattle.tables.specs.Rows.{settings_of}
 use Rattle.tables.specs.Sound.{chain_from, table_refusal}
 use Rattle.tables.proofs.Once.{Inside}
@@ -18,7 +18,7 @@ use Rattle.lookup_level.specs.Readable.{Readable}
 
 walkable : (n : ℕ) (e : List ℕ) → length e ≡ entry_length n → (h : ℕ) (ss : List ℕ) → Linked e h ss → All (Inside n) ss → Walkable e h ss
 walkable n e room h [] c i = c
-walkable n e room h (s ∷ ss) c i = (c.0, c.1, omega (arith, i.0.1), walkable n e room _ ss c.2 i.1)
+walkable n e room h (s ∷ ss) c i = (c.0, c.1, omega (arith, i.0.1), walkable n e room (next_of e s) ss c.2 i.1)
 
 -- Tables that are not refused can be read.
 pub readable : (e l : List ℕ) → table_refusal e l ≡ 0 → Readable e l

@@ -1,5 +1,7 @@
 // Lookup of one docket in one level, given by its two chains: the points first, then the ranges. A lookup carries the latest date of
 // the ranges over its docket that it has met so far.
+#![tactic(auto)]
+
 ghost use Rattle.std.specs.Prelude.{◌≡◌, map, max};
 ghost use Rattle.tables.specs.Slots.{InTable};
 ghost use Rattle.tables.specs.Sound.{chain_from};
@@ -13,7 +15,7 @@ use table_slots::{PUT, kind_of, lo_of, next_of, stamp_of, tally_of};
 
 // What one level says: a stamp and a tally, that the docket is absent, or to go deeper with the latest date met so far. The stamp stands
 // before the tally: behind it both would be copied through memory, in parts that do not match.
-#[derive(Drop)]
+#[derive(Clone, Copy)]
 pub enum Decided {
     Value(u32, Tally),
     Absent,

@@ -1,4 +1,6 @@
 // Makes a fresh store in two lent word tables, whatever they held before.
+#![tactic(auto)]
+
 ghost use Rattle.std.specs.Prelude.{◌≡◌};
 ghost use Rattle.make.specs.Make.{make_tables};
 

@@ -1,4 +1,6 @@
 // The words of a fresh store, laid over whatever the two tables held before.
+#![tactic(auto)]
+
 ghost use Rattle.std.specs.Prelude.{◌≡◌, ◌+◌, ◌*◌, ◌≤◌, length};
 ghost use Rattle.tables.specs.Slots.{entry_length, set_slot, free_slot};
 ghost use Rattle.tables.specs.Rows.{level_length};

@@ -1,4 +1,6 @@
 // One level merged into another, chain by chain.
+#![tactic(auto)]
+
 ghost use Rattle.lists.specs.All.{Exists};
 ghost use Rattle.merge_join.specs.Joining.{Levels, LevelsHeld, Joined, Merged, MergedHeld, merging, Settled};
 

@@ -1,4 +1,6 @@
 // Levels merged downwards in the two tables: one, or all of them in order.
+#![tactic(auto)]
+
 ghost use Rattle.std.specs.Prelude.{◌<◌};
 ghost use Rattle.lists.specs.All.{Exists};
 ghost use Rattle.model.specs.Steps.{begin, merge_level, merge_all};

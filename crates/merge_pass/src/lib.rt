@@ -1,4 +1,6 @@
 // The pass: each level from the buffer to L−1 merged where it has too many records or has owed for its limit.
+#![tactic(auto)]
+
 ghost use Rattle.std.specs.Prelude.{◌≡◌, ◌≤◌};
 ghost use Rattle.lists.specs.All.{Exists};
 ghost use Rattle.settings.specs.Carried.{Carried};

@@ -1,4 +1,6 @@
 // The points of a level that go because the level above has a point of their docket or a range that covers them.
+#![tactic(auto)]
+
 ghost use Rattle.std.specs.Prelude.{◌≡◌, ◌≢◌, ◌<◌};
 ghost use Rattle.lists.specs.All.{Exists};
 ghost use Rattle.chain_cover.specs.Fronts.{FrontOrdered};
@@ -11,7 +13,7 @@ use chain_cover::{Front, advance, first_names, front_at, front_covers, seek};
 use table_slots::{lo_of, stamp_of};
 
 // What is left to look at of the upper points and ranges, and a cursor in the lower points.
-#[derive(Drop)]
+#[derive(Clone, Copy)]
 struct Progress {
     points: usize,
     ranges: Front,

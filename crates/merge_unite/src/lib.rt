@@ -1,4 +1,6 @@
 // Ranges of two levels on the way to one chain: of two alike the upper one stays, with the later date and the later stamp.
+#![tactic(auto)]
+
 ghost use Rattle.std.specs.Prelude.{◌≢◌, ◌<◌};
 ghost use Rattle.lists.specs.All.{Exists};
 ghost use Rattle.chain_cells.specs.Splicing.{Chains};
@@ -9,7 +11,7 @@ use chain_links::take_later;
 use table_slots::{next_of, order_key};
 
 // What is left to look at of the upper ranges, and a cursor in the lower ones.
-#[derive(Drop)]
+#[derive(Clone, Copy)]
 struct Progress {
     upper: usize,
     cursor: Cursor,

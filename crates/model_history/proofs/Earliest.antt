@@ -8,7 +8,7 @@ use borrow.Author.Tests.{eqb-true, eqb-false, ne_eqb}
 use lib.Dec.{eqb}
 use Rattle.lists.proofs.Bools.{by_cases}
 use Rattle.model.specs.Merge.{earlier}
-use Rattle.model_history.specs.History.{Event, came_after, earliest}
+use Rattle.model_history.specs.History.{Event, comes, came_after, earliest}
 
 -- The earlier of two clocks where neither is 0, and where the second is.
 earlier_some : (a b : ℕ) → eqb a 0 ≡ false → eqb b 0 ≡ false → earlier a b ≡ min a b
@@ -44,4 +44,4 @@ module _ {A : Type 0} where
   pub came_append : (came : ℕ → List ℕ) (es fs : List (Event A)) → came_after came (es ++ fs) ≡ came_after (came_after came es) fs
   unfolding came_after
   came_append came [] fs = refl
-  came_append came (e ∷ es) fs = came_append _ es fs
+  came_append came (e ∷ es) fs = came_append (comes came e) es fs

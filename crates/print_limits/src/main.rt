@@ -1,4 +1,6 @@
 // Prints, for the settings of the papers' cases, each level's limit and capacity.
+#![tactic(auto)]
+
 use settings::{Bound, Checked, Settings};
 
 const OUT: i32 = 1;

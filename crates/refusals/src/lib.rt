@@ -1,4 +1,6 @@
 // The refusals of document 01, by where they are found. Number 8, the end of the pass, never comes, and has no name here.
+#![tactic(auto)]
+
 pub const ENTRY_LENGTH: u32 = 1;
 
 pub const LEVEL_TABLE: u32 = 2;

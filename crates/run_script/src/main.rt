@@ -1,4 +1,6 @@
 // The script program of document 01: reads standard input and prints three numbers for each line, four for a lookup.
+#![tactic(auto)]
+
 mod retry;
 
 ghost use Rattle.std.specs.Prelude.{◌≡◌, ◌≤◌, true, length, replicate};
@@ -10,7 +12,7 @@ use script_buffer::Progress;
 use script_stream::{feed, finish};
 
 // Where a script stands between two blocks, and whether it goes on: the input may have more, and the output takes it.
-#[derive(Drop)]
+#[derive(Clone, Copy)]
 struct Served {
     slots: usize,
     deepest: usize,

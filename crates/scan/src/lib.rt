@@ -1,4 +1,6 @@
 // Scan: the live dockets from lo to hi, written into the caller's rows. The hall's rows show all, the grower's counts and stamps only.
+#![tactic(auto)]
+
 ghost use Rattle.std.specs.Prelude.{◌≡◌};
 ghost use Rattle.tables.specs.Slots.{InTable};
 ghost use Rattle.check_refusal.specs.Dockets.{docket_refusal};
@@ -13,7 +15,7 @@ use table_slots::{count_of, stamp_of, tally_of};
 
 // A live docket, its count, its price and its stamp.
 #[repr(C)]
-#[derive(Drop)]
+#[derive(Clone, Copy)]
 pub struct Row {
     pub docket: u32,
     pub count: u32,
@@ -23,7 +25,7 @@ pub struct Row {
 
 // The same for the grower: a live docket, its count and its stamp.
 #[repr(C)]
-#[derive(Drop)]
+#[derive(Clone, Copy)]
 pub struct CountRow {
     pub docket: u32,
     pub count: u32,
@@ -31,7 +33,7 @@ pub struct CountRow {
 }
 
 // What a scan answers: the number of its refusal or 0, how many rows it filled, whether there are more live dockets, and the next one.
-#[derive(Drop)]
+#[derive(Clone, Copy)]
 pub struct Scanned {
     pub refusal: u32,
     pub count: usize,

@@ -1,4 +1,6 @@
 // The ranges that levels still have to come: the latest date of those over a docket, how deep it is found, and up to where that is so.
+#![tactic(auto)]
+
 ghost use Rattle.std.specs.Prelude.{◌≡◌, ◌≤◌, min};
 ghost use Rattle.scan_fences.specs.Fences.{Ready, sees, surveyed};
 
@@ -11,7 +13,7 @@ const LAST_DOCKET: u32 = 65535;
 
 // The latest date of the ranges over the dockets before the fence, from the one asked for on, and how many levels from 0 on it takes to
 // have it. Both are 0 where no range is over them.
-#[derive(Drop)]
+#[derive(Clone, Copy)]
 pub struct Cover {
     pub date: u32,
     pub depth: u32,
@@ -20,7 +22,7 @@ pub struct Cover {
 
 // What was seen of some levels: the latest date, how many levels it takes to have it, the last docket of its range, and where a range
 // begins next.
-#[derive(Drop)]
+#[derive(Clone, Copy)]
 struct Seen {
     date: u32,
     depth: u32,

@@ -1,4 +1,6 @@
 // What each of some levels has next, as numbers in ascending order: the least is the least docket's, and of its the shallowest level's.
+#![tactic(auto)]
+
 ghost use Rattle.std.specs.Prelude.{◌≡◌, ◌≢◌, ◌<◌, min, max};
 ghost use Rattle.chain_cover.specs.Walks.{Ordered};
 ghost use Rattle.scan_heads.specs.Heads.{key_from, head_at, key_of, level_of, slot_of, sunk, pushed, passed, blank};
@@ -13,7 +15,7 @@ const NO_HEAD: u64 = 281474977169408;
 
 // The least of some heads with its slot, and the others after it. The slot is told apart, so that the next record can be read before
 // the docket of this one is known.
-#[derive(Drop)]
+#[derive(Clone, Copy)]
 pub struct Heads {
     pub slot: usize,
     pub first: u64,

@@ -2,5 +2,5 @@
 pub mod Branches
 pub mod Live
 pub mod Coming
-pub mod Hidden
+pub mod Shown
 pub mod Steps

@@ -1,4 +1,6 @@
 // A sweep over the levels, and its step: the least record to come is passed, and its docket is live or not.
+#![tactic(auto)]
+
 ghost use Rattle.std.specs.Prelude.{◌≡◌, ◌≤◌};
 ghost use Rattle.scan_step.specs.Sweeps.{next_key, doubtful, is_hidden, standing, gone, neared, Sweeping};
 
@@ -16,7 +18,7 @@ pub const SEARCHING: u32 = 1;
 // sweep stands (going), whether it has come to a live docket (1 or 0), to which, and in which slot its put is. No field is a bool: the gap
 // beside it would be copied byte by byte. Slots of ranges are halves of a word: a larger state would not stay in registers in the caller's
 // loop. The put's slot stands before the numbers of four bytes: behind them the ranges would be copied once more for each record.
-#[derive(Drop)]
+#[derive(Clone, Copy)]
 pub struct Sweep {
     pub heads: Heads,
     pub ranges: [u32; 14],

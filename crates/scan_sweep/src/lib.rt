@@ -1,5 +1,7 @@
 // The live dockets of sound tables in ascending order, one after the other. Each record is passed once: the heads of all levels ascend,
 // and the least is next.
+#![tactic(auto)]
+
 ghost use Rattle.std.specs.Prelude.{◌≡◌, ◌<◌, ◌≤◌, min};
 ghost use Rattle.lookup_level.specs.Readable.{Readable};
 ghost use Rattle.scan_step.specs.Sweeps.{next_key, date_above, is_hidden, told, Sweeping};

@@ -1,4 +1,6 @@
 // A line of the script as its bytes come in, and its end: the line is carried out, and what it prints waits to be written out.
+#![tactic(auto)]
+
 ghost use Rattle.std.specs.Prelude.{◌≡◌, ◌+◌, ◌≤◌, length, take, drop};
 ghost use Rattle.script_buffer.specs.Bytes.{kept, taken, ended};
 ghost use Rattle.script_buffer.specs.Room.{Ready, standing};
@@ -13,7 +15,7 @@ const LINE_FEED: u8 = 10;
 const LINE_ROOM: usize = 64;
 
 // Where a script stands: how large its store is, how many bytes of a line are kept, and how many printed bytes wait to be written out.
-#[derive(Drop)]
+#[derive(Clone, Copy)]
 pub struct Progress {
     pub slots: usize,
     pub deepest: usize,

@@ -1,4 +1,6 @@
 // One line of the script, carried out in the memory that holds the store.
+#![tactic(auto)]
+
 ghost use Rattle.std.specs.Prelude.{◌≡◌};
 ghost use Rattle.call_op.specs.declared.Op.TheVariants.{Put};
 ghost use Rattle.script_lines.specs.Lines.{line_of};

@@ -1,4 +1,6 @@
 // Reads a field of a line: one blank and the number after it.
+#![tactic(auto)]
+
 ghost use Rattle.std.specs.Prelude.{◌≡◌, drop};
 ghost use Rattle.script_fields.specs.Numbers.{digits};
 ghost use Rattle.script_fields.specs.Fields.{starts_digit, number_of, field_of, last_of};
@@ -10,7 +12,7 @@ const LARGEST: u64 = 4294967295;
 const MOST_DIGITS: usize = 10;
 
 // What is read at a position: a number and the position after it, or none.
-#[derive(Drop)]
+#[derive(Clone, Copy)]
 pub enum Field {
     Number(u32, usize),
     Missing,

@@ -1,4 +1,6 @@
 // Reads a line of the script: a letter, then numbers, each after one blank.
+#![tactic(auto)]
+
 ghost use Rattle.std.specs.Prelude.{◌≡◌, drop};
 ghost use Rattle.script_lines.specs.declared.Command.TheVariants.{Make, Put, Delete, DeleteRange, DeleteRangeDated, Flush, Tick, Lookup};
 ghost use Rattle.script_lines.specs.Lines.{fields, line_of};
@@ -6,7 +8,7 @@ ghost use Rattle.script_lines.specs.Lines.{fields, line_of};
 use script_fields::{Field, read_field, read_last};
 
 // What a line asks for.
-#[derive(Drop)]
+#[derive(Clone, Copy)]
 pub enum Command {
     // The number of slots, then the settings L, T, B, D.
     Make(u32, u32, u32, u32, u32),
@@ -27,7 +29,7 @@ pub enum Command {
 }
 
 // A line of the script, or none.
-#[derive(Drop)]
+#[derive(Clone, Copy)]
 pub enum Line {
     Is(Command),
     Unreadable,

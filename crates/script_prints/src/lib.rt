@@ -1,9 +1,11 @@
 // Prints what a line of the script answers: three numbers in decimal, or four.
+#![tactic(auto)]
+
 ghost use Rattle.std.specs.Prelude.{[], ◌∷◌, ◌≡◌, ◌+◌, ◌≤◌, length};
 ghost use Rattle.script_prints.specs.Texts.{decimal_text, field_text, numbers_of, numbers_text, overwrite};
 
 // The numbers that a line prints.
-#[derive(Drop)]
+#[derive(Clone, Copy)]
 pub enum Printed {
     Three(u32, u32, u32),
     Four(u32, u32, u32, u32),

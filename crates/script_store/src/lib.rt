@@ -1,4 +1,6 @@
 // A store in memory for 3,275 slots and 6 levels: its size, and the calls on it, each with the numbers that it prints.
+#![tactic(auto)]
+
 ghost use Rattle.std.specs.Prelude.{◌≡◌};
 ghost use Rattle.call_op.specs.Ops.{op_of};
 ghost use Rattle.script_store.specs.Memory.{level_room, makes, does, finds};
@@ -19,14 +21,14 @@ const MOST_SLOTS: u32 = 3275;
 const DEEPEST: u32 = 6;
 
 // How large the store is; no slots where none was made.
-#[derive(Drop)]
+#[derive(Clone, Copy)]
 pub struct Size {
     pub slots: usize,
     pub deepest: usize,
 }
 
 // The store's size after a line, and the numbers that the line prints.
-#[derive(Drop)]
+#[derive(Clone, Copy)]
 pub struct Turn {
     pub slots: usize,
     pub deepest: usize,

@@ -1,4 +1,6 @@
 // The script's input as it comes in, block by block, and its end.
+#![tactic(auto)]
+
 ghost use Rattle.std.specs.Prelude.{◌≡◌, ◌+◌, ◌*◌, ◌≤◌, length};
 ghost use Rattle.script_buffer.specs.Room.{Ready, standing};
 ghost use Rattle.script_stream.specs.Blocks.{fed, finished};

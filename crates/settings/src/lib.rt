@@ -1,4 +1,6 @@
 // The settings of a store, checked once, and each level's limit and capacity worked out from them.
+#![tactic(auto)]
+
 ghost use Rattle.std.specs.Prelude.{◌≡◌, true, ◌+◌, ◌≤◌, ◌<◌};
 ghost use Rattle.settings.specs.Limits.{within, allowed, power, capacity, limit};
 ghost use Rattle.settings.specs.Checked.{checked_of, level_from, limit_of, capacity_of};
@@ -22,7 +24,7 @@ const TERM_LOW: u32 = 1;
 const TERM_HIGH: u32 = 4294967295;
 
 // L, T, B and D of document 01.
-#[derive(Drop)]
+#[derive(Clone, Copy)]
 pub struct Settings {
     pub deepest: u32,
     pub ratio: u32,
@@ -32,7 +34,7 @@ pub struct Settings {
 
 // The settings at a level, carried down from the level above: "the power carried" is T^i, multiplied once it is T^(i+1), the level
 // below's; T^L − 1 divides every limit.
-#[derive(Drop)]
+#[derive(Clone, Copy)]
 pub struct LevelSettings {
     pub settings: Settings,
     pub level: u32,
@@ -42,14 +44,14 @@ pub struct LevelSettings {
 }
 
 // The settings, or the number of the refusal.
-#[derive(Drop)]
+#[derive(Clone, Copy)]
 pub enum Checked {
     Accepted(Settings),
     Refused(u32),
 }
 
 // A level's limit in ticks or its capacity in records, where it has one.
-#[derive(Drop)]
+#[derive(Clone, Copy)]
 pub enum Bound {
     Is(u64),
     Nothing,

@@ -1,4 +1,6 @@
 // The words of the level table: the settings' row and a level's row, read and written, and how many words they are.
+#![tactic(auto)]
+
 ghost use Rattle.std.specs.Prelude.{◌≡◌, ℕ, ◌≤◌, length};
 ghost use Rattle.model.specs.declared.Tally.{Tally};
 ghost use Rattle.lists.specs.All.{Exists};
@@ -14,7 +16,7 @@ use settings::{Checked, Settings};
 const WORDS: usize = 4;
 
 // What a level's row tells: its first point, its first range, its number of records, and owed.
-#[derive(Drop)]
+#[derive(Clone, Copy)]
 pub struct Level {
     pub points: usize,
     pub ranges: usize,

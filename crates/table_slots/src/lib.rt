@@ -1,4 +1,6 @@
 // The words of the entry table: a slot read and written, slot 0 included, and how many slots there are.
+#![tactic(auto)]
+
 ghost use Rattle.std.specs.Prelude.{◌≡◌, ◌<◌, ◌≤◌, leb};
 ghost use Rattle.tables.specs.Slots.{entry_length, slots_of, InTable, slot_at, set_slot, link_to, span_from, next_of, kind_of, span_of, lo_of, hi_of, tally_of, count_of};
 ghost use Rattle.tables.specs.Slots.{price_of, date_of, stamp_of, free_slot, top_slot, first_free, clock_of, with_link, with_tally, with_date, set_clock};

@@ -1,1 +1,2 @@
 // The words of the two tables as definitions, with their laws; no code.
+#![tactic(auto)]

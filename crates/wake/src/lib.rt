@@ -1,4 +1,6 @@
 // When to wake: the clock of the next due merge, read off the level table.
+#![tactic(auto)]
+
 ghost use Rattle.std.specs.Prelude.{◌≡◌, true};
 ghost use Rattle.settings.specs.Carried.{Carried};
 ghost use Rattle.model_wake.specs.Wake.{wake_level, sooner, next_wake};
@@ -12,7 +14,7 @@ use settings::LevelSettings;
 use table_levels::{level_at, settings_of};
 
 // What is answered: the number of the refusal, or else no clock, or the clock.
-#[derive(Drop)]
+#[derive(Clone, Copy)]
 pub enum Answer {
     Refused(u32),
     Never,

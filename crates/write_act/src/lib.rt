@@ -1,4 +1,6 @@
 // A write where no slot is free, acted out on level L: a put over a put of its docket, a delete over what it covers.
+#![tactic(auto)]
+
 ghost use Rattle.std.specs.Prelude.{◌≡◌, false, ◌≤◌};
 ghost use Rattle.model.specs.declared.Tally.{Tally};
 ghost use Rattle.lists.specs.All.{Exists};

@@ -1,4 +1,6 @@
 // A write entered into the buffer: what it takes the place of goes, and its record comes into the first free slot.
+#![tactic(auto)]
+
 ghost use Rattle.std.specs.Prelude.{◌≡◌, ◌≢◌, cond, false, ◌≤◌, eqb};
 ghost use Rattle.model.specs.declared.Tally.{Tally};
 ghost use Rattle.lists.specs.All.{Exists};

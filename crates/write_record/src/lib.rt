@@ -1,4 +1,6 @@
 // What a write puts into the tables, and whether there is room for it.
+#![tactic(auto)]
+
 ghost use Rattle.std.specs.Prelude.{◌≡◌};
 ghost use Rattle.model.specs.declared.Tally.{Tally};
 ghost use Rattle.lists.specs.All.{Exists};
@@ -12,7 +14,7 @@ use table_levels::level_at;
 use table_slots::{RANGE, first_free};
 
 // What a write puts into a slot beside its stamp; the count of a range delete is its date.
-#[derive(Drop)]
+#[derive(Clone, Copy)]
 pub struct Record {
     pub kind: u32,
     pub lo: u32,

@@ -1,0 +1,19 @@
+-- `chain_cover::meet`: each way out is one of the ways in which a range is met.
+use mathlib.Core.Path.{sym}
+use native.Mathlib.Omega.{arith}
+use borrow.Author.Rules.{rules}
+use Rattle.chain_cover.proofs.Dates.{met_ended, met_older, met_later}
+use Rattle.chain_cover.proofs.meet.Goals as goal
+
+pub returns-then-hi-docket : goal.returns-then-hi-docket
+returns-then-hi-docket c =
+    sym (met_ended _ _ _ _ (omega (arith, c.if-hi-docket.true, c.hi_of-hi.ensures)))
+
+pub returns-then-date-m : goal.returns-then-date-m
+returns-then-date-m c =
+    sym (met_older _ _ _ _ (omega (arith, c.if-date-m.true, c.date_of-date.ensures)))
+
+pub returns : goal.returns
+returns c =
+    rw (c.date_of-date.ensures, c.hi_of-hi.ensures)
+    (sym (met_later _ _ _ _ (omega (arith, c.if-hi-docket.false, c.hi_of-hi.ensures)) (omega (arith, c.if-date-m.false, c.date_of-date.ensures))))

@@ -1,0 +1,17 @@
+use mathlib.Core.Path.{◌≡◌, refl, sym, ◌∙◌}
+use native.Mathlib.Omega.{arith}
+use lib.ListN.{length}
+use Rattle.tables.specs.Sound.{chain_from}
+use Rattle.chain_cover.specs.Walks.{Ordered}
+use Rattle.chain_cover.specs.Dates.{surveyed}
+use Rattle.chain_cover.proofs.Chains.{On, go_on, shorter}
+use Rattle.chain_cover.proofs.Dates.{walk_end, walk_past, walk_next}
+use Rattle.chain_cover.proofs.survey.Given as goal
+
+abbrev pub invariant-loop-at : goal.invariant-loop-at
+invariant-loop-at l =
+    Ordered l.e l.at × (surveyed l.e l.docket (chain_from l.e l.at) l.m ≡ surveyed l.e l.docket (chain_from l.e l.head) l.initial.m)
+
+abbrev pub decreases-loop-at : goal.decreases-loop-at
+decreases-loop-at l =
+    length (chain_from l.e l.at)

@@ -1,0 +1,15 @@
+use mathlib.Core.Path.{◌≡◌, refl}
+use lib.ListN.{length}
+use borrow.Author.Rules.{rules}
+use Rattle.chain_cells.specs.Sifting.{Chain, OneHeld, Sifting, left_at, sift_of}
+use Rattle.chain_cells.proofs.Sieves.{cursor_fits, sifting_begins, sifting_ends}
+use Rattle.chain_sieve.specs.Doomed.{doomed}
+use Rattle.chain_sieve.proofs.sieve.Given as goal
+
+abbrev pub invariant-loop-m : goal.invariant-loop-m
+invariant-loop-m l =
+    (length l.e ≡ length l.initial.e) × ((g : Chain) → OneHeld g l.initial.e l.first → Sifting (sift_of (doomed l.which) g) l.e l.m)
+
+abbrev pub decreases-loop-m : goal.decreases-loop-m
+decreases-loop-m l =
+    left_at l.e l.m

@@ -1,0 +1,15 @@
+use borrow.Author.Rules.{rules}
+use borrow.Author.Tests.{not-true, not-false}
+use Prim.Native.Nat.{◌+◌, ◌-◌, ◌≤◌}
+use Rattle.tables.specs.Rows.{settings_of}
+use native.Mathlib.Omega.{arith}
+use Rattle.check_chains.proofs.Levels.{Levels, level_sum, levels_start, levels_end, levels_fail, levels_go}
+use Rattle.check_chains.proofs.levels_fit.Given as goal
+
+abbrev pub invariant-loop-i : goal.invariant-loop-i
+invariant-loop-i l =
+    Levels l.e l.l l.initial.marks l.free l.marks l.total l.i
+
+abbrev pub decreases-loop-i : goal.decreases-loop-i
+decreases-loop-i l =
+    l.deepest + 1 - l.i

@@ -1,0 +1,9 @@
+-- `guontrem::guontrem_wake`: the number that goes out is that of the answer.
+use mathlib.Core.Path.{ap, ◌∙◌}
+use borrow.Author.Rules.{rules}
+use Rattle.c_packing.specs.Packed.{packed_wake}
+use Rattle.guontrem.proofs.guontrem_wake.Goals as goal
+
+pub returns : goal.returns
+returns c =
+    c.pack_wake.ensures ∙ ap packed_wake c.wake.ensures

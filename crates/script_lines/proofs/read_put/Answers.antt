@@ -1,0 +1,27 @@
+-- `script_lines::read_put`: with each number read, those that are left make the same line.
+use mathlib.Core.List.{List}
+use Prim.Native.Nat.{ℕ}
+use borrow.Author.Rules.{rules}
+use Rattle.script_lines.specs.declared.Command.TheVariants.{Put}
+use Rattle.script_lines.proofs.Fields.{Rest, none_read, one_read, none_there, all_read, no_last}
+use Rattle.script_lines.proofs.read_put.Goals as goal
+
+pub returns-in_default : goal.returns-in_default
+returns-in_default c =
+    none_there ((none_read 4 Put ((c.args.text.now)))) c.read_field.ensures c.in_default.is
+
+pub returns-in_default-read_field : goal.returns-in_default-read_field
+returns-in_default-read_field c =
+    none_there ((one_read ((none_read 4 Put ((c.args.text.now)))) c.read_field.ensures c.in-Number.is)) c.read_field-2.ensures c.in_default-read_field.is
+
+pub returns-in_default-read_field-2 : goal.returns-in_default-read_field-2
+returns-in_default-read_field-2 c =
+    none_there ((one_read ((one_read ((none_read 4 Put ((c.args.text.now)))) c.read_field.ensures c.in-Number.is)) c.read_field-2.ensures c.in-Number-read_field.is)) c.read_field-3.ensures c.in_default-read_field-2.is
+
+pub returns-in_default-read_last : goal.returns-in_default-read_last
+returns-in_default-read_last c =
+    no_last ((one_read ((one_read ((one_read ((none_read 4 Put ((c.args.text.now)))) c.read_field.ensures c.in-Number.is)) c.read_field-2.ensures c.in-Number-read_field.is)) c.read_field-3.ensures c.in-Number-read_field-2.is)) c.read_last.ensures c.in_default-read_last.is
+
+pub returns : goal.returns
+returns c =
+    all_read ((one_read ((one_read ((one_read ((none_read 4 Put ((c.args.text.now)))) c.read_field.ensures c.in-Number.is)) c.read_field-2.ensures c.in-Number-read_field.is)) c.read_field-3.ensures c.in-Number-read_field-2.is)) c.read_last.ensures c.in-Number-read_last.is

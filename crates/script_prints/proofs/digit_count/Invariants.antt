@@ -1,0 +1,11 @@
+use native.Mathlib.Omega.{arith}
+use Rattle.script_prints.proofs.Loops.{Counting, count_first, count_more, count_all}
+use Rattle.script_prints.proofs.digit_count.Given as goal
+
+abbrev pub invariant-loop-rest : goal.invariant-loop-rest
+invariant-loop-rest l =
+    Counting l.number l.count l.rest
+
+abbrev pub decreases-loop-rest : goal.decreases-loop-rest
+decreases-loop-rest l =
+    l.rest

@@ -1,0 +1,15 @@
+use Prim.Native.Nat.{ℕ, ◌+◌, ◌-◌, ◌≤◌}
+use native.Mathlib.Omega.{arith}
+use Rattle.model.specs.declared.Tally.{Tally}
+use Rattle.model.specs.Records.{State}
+use Rattle.table_levels.specs.Levels.{RowsAre}
+use Rattle.table_levels.proofs.Adds.{Adds, adds_nothing, adds_one, adds_all, rows_length, rows_deepest}
+use Rattle.table_levels.proofs.held_all.Given as goal
+
+abbrev pub invariant-loop-i : goal.invariant-loop-i
+invariant-loop-i l =
+    (l.i ≤ l.levels) × ((p : State ℕ Tally) → RowsAre p l.l → Adds p l.l l.levels l.held l.i)
+
+abbrev pub decreases-loop-i : goal.decreases-loop-i
+decreases-loop-i l =
+    l.levels - l.i
