@@ -2,58 +2,43 @@
 #![tactic(auto)]
 
 use settings::{Bound, Checked, Settings};
+use std::io;
 
-const OUT: i32 = 1;
-
-fn main() {
-    show(3, 2, 2, 9);
-    show(4, 4, 8, 100);
-    show(3, 10, 1, 10);
-    show(6, 2, 64, 1);
-    show(2, 10, 64, 4294967295);
-    show(6, 10, 64, 4294967295);
-    show(7, 2, 2, 9);
+fn main(rt: HostRuntime) -> io::Result<()> {
+    show(&rt, 3, 2, 2, 9)?;
+    show(&rt, 4, 4, 8, 100)?;
+    show(&rt, 3, 10, 1, 10)?;
+    show(&rt, 6, 2, 64, 1)?;
+    show(&rt, 2, 10, 64, 4294967295)?;
+    show(&rt, 6, 10, 64, 4294967295)?;
+    show(&rt, 7, 2, 2, 9)
 }
 
 // One line of settings and one for each level that has a limit, or the refusal.
-fn show(deepest: u32, ratio: u32, buffer: u32, term: u32) {
-    io::write_all(OUT, b"L=");
-    io::print_decimal(OUT, deepest as u64);
-    io::write_all(OUT, b" T=");
-    io::print_decimal(OUT, ratio as u64);
-    io::write_all(OUT, b" B=");
-    io::print_decimal(OUT, buffer as u64);
-    io::write_all(OUT, b" D=");
-    io::print_decimal(OUT, term as u64);
+fn show(rt: &impl Print, deepest: u32, ratio: u32, buffer: u32, term: u32) -> io::Result<()> {
+    print!(rt; "L={deepest} T={ratio} B={buffer} D={term}")?;
     let Checked::Accepted(s) = Settings::new(deepest, ratio, buffer, term) else {
-        io::write_all(OUT, b": refused 6\n");
-        return;
+        return println!(rt; ": refused 6");
     };
-    io::write_all(OUT, b"\n");
-    show_level(s, 0);
-    show_level(s, 1);
-    show_level(s, 2);
-    show_level(s, 3);
-    show_level(s, 4);
-    show_level(s, 5);
+    println!(rt)?;
+    for level in 0..6 {
+        show_level(rt, s, level)?;
+    }
+    Ok(())
 }
 
-fn show_level(s: Settings, level: u32) {
+fn show_level(rt: &impl Print, s: Settings, level: u32) -> io::Result<()> {
     let Bound::Is(limit) = s.limit(level) else {
-        return;
+        return Ok(());
     };
-    io::write_all(OUT, b"  level ");
-    io::print_decimal(OUT, level as u64);
-    io::write_all(OUT, b": limit ");
-    io::print_decimal(OUT, limit);
-    show_capacity(s, level);
-    io::write_all(OUT, b"\n");
+    print!(rt; "  level {level}: limit {limit}")?;
+    show_capacity(rt, s, level)?;
+    println!(rt)
 }
 
-fn show_capacity(s: Settings, level: u32) {
+fn show_capacity(rt: &impl Print, s: Settings, level: u32) -> io::Result<()> {
     let Bound::Is(capacity) = s.capacity(level) else {
-        return;
+        return Ok(());
     };
-    io::write_all(OUT, b", capacity ");
-    io::print_decimal(OUT, capacity);
+    print!(rt; ", capacity {capacity}")
 }

@@ -3,13 +3,16 @@
 
 mod retry;
 
-ghost use Rattle.std.specs.Prelude.{◌≡◌, ◌≤◌, true, length, replicate};
+ghost use Rattle.std.specs.Prelude.{◌≡◌, ◌≤◌, true, length, replicate, take};
+ghost use Rattle.std.specs.Io.KnownBytes.{Appends};
 ghost use Rattle.run_script.specs.Served.{Serving, begun};
 ghost use Rattle.run_script.specs.Turns.{Turn, Run, stands};
 
 use retry::{read_block, write_all};
 use script_buffer::Progress;
 use script_stream::{feed, finish};
+use std::io::{Read, Write};
+use std::rt::Clock;
 
 // Where a script stands between two blocks, and whether it goes on: the input may have more, and the output takes it.
 #[derive(Clone, Copy)]
@@ -20,13 +23,16 @@ struct Served {
     more: bool,
 }
 
-fn main() {
+fn main(rt: HostRuntime) {
     let mut entries = entry_room();
     let mut levels = level_room();
     let mut line = line_room();
     let mut input = input_room();
     let mut output = output_room();
     serve(
+        &rt,
+        &mut rt.stdin(),
+        &mut rt.stdout(),
         &mut entries,
         &mut levels,
         &mut line,
@@ -71,7 +77,10 @@ fn output_room() -> [u8; 360448]
 }
 
 // Reads blocks until the input ends or the output is closed.
-fn serve(
+fn serve<R: Read, W: Write>(
+    rt: &(impl Clock + Eprint),
+    reader: &mut R,
+    writer: &mut W,
     entries: &mut [u32],
     levels: &mut [u32],
     line: &mut [u8],
@@ -91,14 +100,17 @@ fn serve(
     // A proved loop has to end: it counts down from a number that no run uses up.
     let mut turns = u64::MAX;
     while turns > 0 && m.more {
-        m = serve_block(entries, levels, line, input, output, m);
+        m = serve_block(rt, reader, writer, entries, levels, line, input, output, m);
         turns -= 1;
     }
     m
 }
 
 // Reads a block and writes out what it prints before the next is read, so that whoever types sees each answer at once.
-fn serve_block(
+fn serve_block<R: Read, W: Write>(
+    rt: &(impl Clock + Eprint),
+    reader: &mut R,
+    writer: &mut W,
     entries: &mut [u32],
     levels: &mut [u32],
     line: &mut [u8],
@@ -117,22 +129,30 @@ fn serve_block(
         length: m.length,
         waiting: 0,
     };
-    let n = read_block(input);
+    let n = read_block(rt, reader, input);
     if n == 0 {
         let last = finish(entries, levels, line, output, start);
-        return write_out(output, last, false);
+        return write_out(rt, writer, output, last, false);
     }
     let next = feed(&input[..n], entries, levels, line, output, start);
-    write_out(output, next, true)
+    write_out(rt, writer, output, next, true)
 }
 
 // Writes out what waits; the script goes on if the input does and all was written.
-fn write_out(output: &[u8], m: Progress, unread: bool) -> Served
+fn write_out<W: Write>(
+    rt: &(impl Clock + Eprint),
+    writer: &mut W,
+    output: &[u8],
+    m: Progress,
+    unread: bool,
+) -> Served
     requires { m.waiting ≤ length output.now }
     ensures slots_value { (result.slots ≡ m.slots) × (result.deepest ≡ m.deepest) × (result.length ≡ m.length) }
     ensures unread_value { result.more ≡ true → unread ≡ true }
+    ensures written { result.more ≡ true → Appends (W.contents writer.old) (W.contents writer.new)
+        (take m.waiting output.now) }
 {
-    let written = write_all(&output[..m.waiting]);
+    let written = write_all(rt, writer, &output[..m.waiting]);
     Served {
         slots: m.slots,
         deepest: m.deepest,

@@ -1,34 +1,40 @@
 // Standard input and output, where a call that a signal stopped, or that would have to wait, is made again. A proved loop has to
 // end: it counts its tries down from a number that no run uses up.
-ghost use Rattle.std.specs.Prelude.{◌≤◌, ◌<◌, length};
-ghost use Rattle.io.specs.Counts.{IsPrefixLen};
+ghost use Rattle.std.specs.Prelude.{◌≡◌, ◌⊎◌, ◌+◌, ◌≤◌, ◌<◌, IsTrue, length, take};
+ghost use Rattle.std.specs.Io.KnownBytes.{Appends, Consumes};
+ghost use Rattle.std.specs.IoError.{error_kind};
 
-use libc::types::timespec;
-use libc::{EAGAIN, EINTR, STDERR_FILENO, STDIN_FILENO, STDOUT_FILENO};
+use std::io::{Error, ErrorKind, Read, Write};
+use std::rt::Clock;
+use std::thread;
+use std::time::Duration;
 
 // Reads a block to the start of the input's room and answers its length: 0 at the end of the input, or where no more can be read.
-pub fn read_block(input: &mut [u8]) -> usize
-    ensures { IsPrefixLen result input.new }
+pub fn read_block<R: Read>(rt: &(impl Clock + Eprint), reader: &mut R, input: &mut [u8]) -> usize
+    ensures within { result ≤ length input.new }
+    ensures prefix { result ≡ length (take result input.new) }
+    ensures bytes { Consumes (R.remaining reader.old) (R.remaining reader.new) (take result input.new) }
 {
     let mut tries = u64::MAX;
-    let mut got = libc::read(STDIN_FILENO, input);
-    while tries > 0 && got < 0 {
-        tries = tries_left(tries);
-        got = libc::read(STDIN_FILENO, input);
+    while tries > 0 {
+        match reader.read(input) {
+            Ok(n) => return n,
+            Err(e) => tries = tries_left(rt, tries, &e),
+        }
     }
-    if got < 0 {
-        io::write_all(STDERR_FILENO, b"run_script: the input was cut\n");
-    }
-    io::count(got, input)
+    let _ = eprintln!(rt; "run_script: the input was cut");
+    0
 }
 
 // Writes out all of the bytes and answers true, or says on standard error that they were cut.
-pub fn write_all(bytes: &[u8]) -> bool {
+pub fn write_all<W: Write>(rt: &(impl Clock + Eprint), writer: &mut W, bytes: &[u8]) -> bool
+    ensures all { IsTrue result → Appends (W.contents writer.old) (W.contents writer.new) bytes.now }
+{
     let mut done = 0;
     while done < bytes.len() {
-        let more = write_some(&bytes[done..]);
+        let more = write_some(rt, writer, &bytes[done..]);
         if more == 0 {
-            io::write_all(STDERR_FILENO, b"run_script: the output was cut\n");
+            let _ = eprintln!(rt; "run_script: the output was cut");
             return false;
         }
         done += more;
@@ -37,40 +43,36 @@ pub fn write_all(bytes: &[u8]) -> bool {
 }
 
 // Writes out some of the first bytes and answers how many: 0 where the output takes no more.
-fn write_some(bytes: &[u8]) -> usize
-    ensures { result ≤ length bytes.now }
+fn write_some<W: Write>(rt: &impl Clock, writer: &mut W, bytes: &[u8]) -> usize
+    ensures within { result ≤ length bytes.now }
+    ensures bytes { Appends (W.contents writer.old) (W.contents writer.new) (take result bytes.now) }
 {
     let mut tries = u64::MAX;
-    let mut took = libc::write(STDOUT_FILENO, bytes);
-    while tries > 0 && took < 0 {
-        tries = tries_left(tries);
-        took = libc::write(STDOUT_FILENO, bytes);
+    while tries > 0 {
+        match writer.write(bytes) {
+            Ok(n) => return n,
+            Err(e) => tries = tries_left(rt, tries, &e),
+        }
     }
-    io::count(took, bytes)
+    0
 }
 
 // How many tries are left after one that failed: one fewer, after a pause, or none where waiting does not help.
-fn tries_left(tries: u64) -> u64
+fn tries_left(rt: &impl Clock, tries: u64, error: &Error) -> u64
     requires { 0 < tries }
-    ensures { result < tries }
+    ensures fewer { result < tries }
+    ensures again { ((error_kind error.now ≡ ErrorKind.Interrupted) ⊎ (error_kind error.now ≡ ErrorKind.WouldBlock))
+        → tries ≡ result + 1 }
 {
-    let error = os::errno();
-    if error != EINTR && error != EAGAIN {
+    let kind = error.kind();
+    if kind != ErrorKind::Interrupted && kind != ErrorKind::WouldBlock {
         return 0;
     }
-    pause();
+    pause(rt);
     tries - 1
 }
 
 // Waits for a thousandth of a second.
-fn pause() {
-    let asked = timespec {
-        tv_sec: 0,
-        tv_nsec: 1000000,
-    };
-    let mut left = timespec {
-        tv_sec: 0,
-        tv_nsec: 0,
-    };
-    libc::nanosleep(&asked, &mut left);
+fn pause(rt: &impl Clock) {
+    thread::sleep(rt, Duration::from_millis(1));
 }

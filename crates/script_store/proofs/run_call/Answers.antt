@@ -17,4 +17,4 @@ pub returns : goal.returns
 returns c =
     let a = c.args in
     done c.requires c.entry_length-words.ensures c.level_length-rows.ensures (record { clock = a.clock; op = op_of a.op })
-    c.call-answer.new.entries c.call-answer.new.levels c.call-answer.result c.counted.ensures c.call-answer.ensures c.call-answer.auto.0 c.call-answer.auto.1.0
+    c.call-answer.new.entries c.call-answer.new.levels c.call-answer.result c.counted.ensures c.call-answer.ensures c.call-answer.auto.entries c.call-answer.auto.levels

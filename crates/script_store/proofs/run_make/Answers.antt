@@ -32,4 +32,4 @@ returns-then-refusal-ne0 c =
 pub returns : goal.returns
 returns c =
     make_accepted c.requires c.args.slots ((let a = c.args in record { deepest = a.deepest; ratio = a.ratio; buffer = a.buffer; term = a.term })) c.if-slots-gt-MOST_SLOTS.false c.entry_length-words.ensures
-    c.level_room-rows.ensures c.make-refusal.result c.make-refusal.new.entries c.make-refusal.new.levels c.make-refusal.ensures c.if-refusal-ne0.false c.make-refusal.kept.0 c.make-refusal.kept.1.0
+    c.level_room-rows.ensures c.make-refusal.result c.make-refusal.new.entries c.make-refusal.new.levels c.make-refusal.ensures c.if-refusal-ne0.false c.make-refusal.auto.entries c.make-refusal.auto.levels
