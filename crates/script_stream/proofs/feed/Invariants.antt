@@ -1,0 +1,18 @@
+use mathlib.Core.Path.{◌≡◌, refl}
+use Prim.Native.Nat.{◌-◌}
+use native.Mathlib.Omega.{arith}
+use borrow.Author.Rules.{rules}
+use lib.ListN.{length}
+use Rattle.script_stream.specs.Blocks.{fed}
+use Rattle.script_buffer.specs.Room.{standing}
+use Rattle.script_stream.proofs.Steps.{Between, feeds_one, feeds_all}
+use Rattle.script_stream.proofs.feed.Given as goal
+
+abbrev pub invariant-loop-i : goal.invariant-loop-i
+invariant-loop-i l =
+    ((length l.entries ≡ length l.initial.entries) × (length l.levels ≡ length l.initial.levels) × (length l.line ≡ length l.initial.line))
+    × Between l.block (length l.initial.output) l.initial.m (fed l.block (standing l.initial.entries l.initial.levels l.initial.line l.initial.output l.initial.m)) l.entries l.levels l.line l.output l.m l.i
+
+abbrev pub decreases-loop-i : goal.decreases-loop-i
+decreases-loop-i l =
+    length l.block - l.i
