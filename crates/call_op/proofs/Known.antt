@@ -4,7 +4,6 @@ use Prim.Native.Nat.{ℕ}
 use native.Mathlib.Omega.{arith}
 use Rattle.lists.specs.All.{Exists}
 use Rattle.model.specs.declared.Tally.{Tally}
-use Rattle.model.specs.Steps.{Write}
 use Rattle.model.specs.Calls.{Op, written, flush, tick}
 use Rattle.write_record.specs.declared.Record.{Record}
 use Rattle.write_record.specs.Records.{record_of}

@@ -16,7 +16,7 @@ use Rattle.lists.proofs.Tests.{all_weaken, any-map, any_same}
 use Rattle.lists.proofs.Counts.{count_map, none_counted}
 use Rattle.lists.proofs.Counting.{Distinct, pigeonhole}
 use Rattle.model.specs.declared.Tally.{Tally}
-use Rattle.model.specs.Records.{Point, State, is_put}
+use Rattle.model.specs.Records.{Point, State}
 use Rattle.model.specs.Merge.{names, point_slots}
 use Rattle.model.specs.Steps.{put, no_slot}
 use Rattle.model.specs.Calls.{written, bad_clock}

@@ -1,7 +1,7 @@
 -- Sound tables are readable: every chain ends inside the table, in order.
 use mathlib.Core.Path.{◌≡◌}
 use mathlib.Core.List.{List, [], ◌∷◌}
-use Prim.Native.Nat.{ℕ, ◌+◌, ◌*◌}
+use Prim.Native.Nat.{ℕ}
 use native.Mathlib.Omega.{arith}
 use lib.ListN.{length}
 use Rattle.settings.proofs.Allowed.{allowed_bounds}

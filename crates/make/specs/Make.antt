@@ -1,6 +1,6 @@
 -- Document 01, "Refused calls": "Making a store checks 1, then 6, then the length in 2; it takes tables of any content
 -- and leaves every slot free, the first row set and every other word of the level table zero."
-use Rattle.std.specs.Prelude.{cond, List, [], ◌∷◌, ℕ, zero, suc, ◌+◌, ◌*◌, eqb, length}
+use Rattle.std.specs.Prelude.{cond, List, [], ◌∷◌, ℕ, zero, suc, eqb, length}
 use Rattle.settings.specs.declared.Settings.{Settings}
 use Rattle.settings.specs.Limits.{allowed}
 use Rattle.tables.specs.Rows.{level_length}

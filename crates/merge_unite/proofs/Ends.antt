@@ -2,7 +2,7 @@
 use mathlib.Core.Path.{◌≡◌, refl, sym, ap, ◌∙◌}
 use mathlib.Core.List.{List, [], map}
 use Prim.Native.Nat.{ℕ}
-use Rattle.tables.specs.Placed.{Cell, head}
+use Rattle.tables.specs.Placed.{Cell}
 use Rattle.chain_cells.specs.Sifting.{Sifted}
 use Rattle.chain_cells.specs.Splicing.{Chains}
 use Rattle.chain_cells.proofs.Sieves.{sifting_begins, sifting_ends}

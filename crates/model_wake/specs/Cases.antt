@@ -2,7 +2,7 @@
 use Rattle.std.specs.Prelude.{◌≡◌, List, [], ◌∷◌, ◌++◌, map, ℕ}
 use Rattle.lists.specs.Lists.{sum}
 use Rattle.model.specs.declared.Tally.{Tally}
-use Rattle.model.specs.Records.{State, empty, level}
+use Rattle.model.specs.Records.{State, empty}
 use Rattle.model.specs.Calls.{Call, Answer, run, answers, step}
 use Rattle.model.specs.Cases.{settings, store, accepts, P, D, R, F, T, hall, noon, kept}
 use Rattle.model_wake.specs.declared.Wake.{Wake}

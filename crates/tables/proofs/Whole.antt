@@ -1,7 +1,7 @@
 -- A formed state is in the model's form: a level for each of 0 to L, whose points ascend, and free slots and records that are all slots.
 use mathlib.Core.Path.{◌≡◌, refl}
 use mathlib.Core.List.{List, [], ◌∷◌, ◌++◌}
-use Prim.Native.Nat.{ℕ, ◌+◌}
+use Prim.Native.Nat.{ℕ}
 use native.Mathlib.Omega.{arith}
 use lib.ListN.{length, length-append, length-map}
 use Rattle.settings.proofs.Allowed.{allowed_bounds}

@@ -1,7 +1,7 @@
 -- One level of a store: its chains before all others, and another level put in its place.
 use mathlib.Core.Path.{◌≡◌, sym, ap, ◌∙◌}
 use mathlib.Core.List.{List, ◌∷◌, map}
-use Prim.Native.Nat.{ℕ, suc, ◌+◌, ◌≤◌, ◌<◌}
+use Prim.Native.Nat.{ℕ, ◌≤◌, ◌<◌}
 use native.Mathlib.Omega.{arith}
 use lib.ListN.{length, set, length-map}
 use lib.Seq.{map-set_same}
@@ -10,7 +10,7 @@ use Rattle.model.specs.declared.Tally.{Tally}
 use Rattle.model.specs.Records.{Level, State, empty, level, stored}
 use Rattle.model.specs.Calls.{timed}
 use Rattle.tables.proofs.Rows.{level_table-set}
-use Rattle.tables.specs.Rows.{level_row, set_row, level_table}
+use Rattle.tables.specs.Rows.{set_row, level_table}
 use Rattle.tables.specs.Placed.{point_cell, range_cell, level_chains, row_of_level, level_words}
 use Rattle.tables.specs.Formed.{Formed}
 use Rattle.tables.proofs.Back.{formed_once}

@@ -1,6 +1,5 @@
 -- `c_packing::pack_lookup`: a tally and its stamp have room in one number, and a refusal, which has neither, stands in the lower half.
 use mathlib.Core.Path.{sym, ap, ◌∙◌}
-use borrow.Author.Rules.{rules}
 use Rattle.c_packing.specs.Packed.{packed}
 use Rattle.c_packing.proofs.Packing.{packed_refused, packed_found}
 use Rattle.c_packing.proofs.pack_lookup.Goals as goal

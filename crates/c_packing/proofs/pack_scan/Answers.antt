@@ -1,5 +1,4 @@
 -- `c_packing::pack_scan`: the count, the next docket, 'more' and the refusal each have room in 64 bits, above the one before.
-use borrow.Author.Rules.{rules}
 use Rattle.c_packing.proofs.Packing.{packed_more, packed_last}
 use Rattle.c_packing.proofs.pack_scan.Goals as goal
 

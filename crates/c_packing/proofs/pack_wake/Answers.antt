@@ -1,6 +1,5 @@
 -- `c_packing::pack_wake`: a refusal of 32 bits has room below bit 63.
 use mathlib.Core.Path.{sym, ap}
-use borrow.Author.Rules.{rules}
 use Rattle.c_packing.specs.Packed.{packed_wake}
 use Rattle.c_packing.proofs.pack_wake.Goals as goal
 

@@ -1,6 +1,5 @@
 -- `call_any::call`: the number that the code finds is the first refusal that the call meets, and where there is none the call has begun.
 use native.Mathlib.Omega.{arith}
-use borrow.Author.Rules.{rules}
 use Rattle.call_refusal.proofs.Begun.{Asked, begun}
 use Rattle.call_op.specs.Ops.{op_of}
 use Rattle.call_any.proofs.Ends.{away}

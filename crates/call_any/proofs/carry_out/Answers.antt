@@ -1,7 +1,6 @@
 -- `call_any::carry_out`: the work is the definition's, so what is handed to the end of the call is too, and the end is the call's.
 use mathlib.Core.Path.{◌≡◌}
 use native.Mathlib.Omega.{arith}
-use borrow.Author.Rules.{rules}
 use Prim.Native.Nat.{◌+◌}
 use Rattle.model.specs.Records.{held_all}
 use Rattle.model.specs.Calls.{count_written}

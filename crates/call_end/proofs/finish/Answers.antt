@@ -1,6 +1,5 @@
 -- `call_end::finish`: the pass leaves the definition's state, the clock is set after it, and what has gone is what there was less what its levels hold.
 use native.Mathlib.Omega.{arith}
-use borrow.Author.Rules.{rules}
 use Rattle.merge_levels.specs.Laid.{Store, Worked}
 use Rattle.merge_levels.proofs.Free.{slot_zero}
 use Rattle.model.specs.Steps.{begin, pass}

@@ -1,5 +1,4 @@
 -- `call_op::dockets`: a put and a delete name one docket, which is in range where lo and hi are.
-use borrow.Author.Rules.{rules}
 use Rattle.call_op.proofs.Named.{dockets_put, dockets_delete, dockets_range}
 use Rattle.call_op.proofs.dockets.Goals as goal
 

@@ -1,5 +1,4 @@
 -- `call_op::is_misdated`: the date of a range delete is outside where the definition says so, and nothing else has one.
-use borrow.Author.Rules.{rules}
 use Rattle.call_op.proofs.is_misdated.Goals as goal
 
 pub returns-in-DeleteRange : goal.returns-in-DeleteRange

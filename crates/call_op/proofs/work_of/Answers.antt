@@ -1,5 +1,4 @@
 -- `call_op::work_of`: each arm's record is that of the write that the operation is.
-use borrow.Author.Rules.{rules}
 use Rattle.call_op.proofs.work_of.Goals as goal
 
 pub returns-in-Put : goal.returns-in-Put

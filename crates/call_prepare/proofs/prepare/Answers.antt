@@ -1,7 +1,6 @@
 -- `call_prepare::prepare`: each arm does the work of the operation that it is for; a write is handed its record.
 use mathlib.Core.Path.{◌≡◌, sym, ◌∙◌}
 use mathlib.Core.List.{List}
-use borrow.Author.Rules.{rules}
 use Prim.Native.Nat.{ℕ}
 use Rattle.lists.specs.All.{Exists}
 use Rattle.model.specs.declared.Tally.{Tally}

@@ -1,7 +1,6 @@
 -- `call_prepare::write`: whether the buffer has room is the definition's test, and on either side of it the tables end as the definition prepares them.
 use mathlib.Core.Path.{◌≡◌, refl, sym, ◌∙◌}
-use mathlib.Core.Bool.{Bool, false}
-use borrow.Author.Rules.{rules}
+use mathlib.Core.Bool.{false}
 use Rattle.model.specs.declared.Tally.{Tally}
 use Rattle.model.specs.Steps.{Write, crowded}
 use Rattle.tables.specs.Placed.{read_state}

@@ -1,7 +1,6 @@
 -- `call_prepare::write_crowded`: once levels 0 to L−1 are merged as the definition merges them, a free slot decides between the buffer and level L.
 use mathlib.Core.Path.{◌≡◌, refl, sym, ◌∙◌}
 use mathlib.Core.Logic.{◌≢◌}
-use borrow.Author.Rules.{rules}
 use Rattle.model.specs.declared.Tally.{Tally}
 use Rattle.model.specs.Steps.{Write, merge_all}
 use Rattle.tables.specs.Slots.{first_free}

@@ -1,7 +1,6 @@
 -- The tests are asked in the order of the refusals' table, so the first way out is the first refusal that is met.
 use mathlib.Core.Path.{sym, ◌∙◌}
 use native.Mathlib.Omega.{arith}
-use borrow.Author.Rules.{rules}
 use Rattle.call_op.specs.Ops.{op_of}
 use Rattle.call_refusal.proofs.Begun.{Checked, refused_dockets, sound_tables, refused_zero, refused_early, refused_date, not_refused, sound_slot_zero}
 use Rattle.call_refusal.proofs.refusal_of.Goals as goal

@@ -1,8 +1,7 @@
 -- `chain_cells::splice`: the loop keeps that, whatever two chains the table held, it is on the way to their merge, and each turn leaves less to do.
-use mathlib.Core.Path.{◌≡◌, refl}
+use mathlib.Core.Path.{refl}
 use borrow.Author.Rules.{rules}
-use lib.ListN.{length}
-use Rattle.chain_cells.specs.Splicing.{Chains, TwoHeld, Splicing, to_do}
+use Rattle.chain_cells.specs.Splicing.{Chains, TwoHeld, Splicing}
 use Rattle.chain_cells.proofs.Splices.{splice_of, splicing_begins, splicing_ends}
 use Rattle.chain_cells.proofs.splice.Goals as goal
 

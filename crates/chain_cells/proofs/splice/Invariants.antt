@@ -1,8 +1,7 @@
-use mathlib.Core.Path.{◌≡◌, refl}
-use borrow.Author.Rules.{rules}
+use mathlib.Core.Path.{◌≡◌}
 use lib.ListN.{length}
 use Rattle.chain_cells.specs.Splicing.{Chains, TwoHeld, Splicing, to_do}
-use Rattle.chain_cells.proofs.Splices.{splice_of, splicing_begins, splicing_ends}
+use Rattle.chain_cells.proofs.Splices.{splice_of}
 use Rattle.chain_cells.proofs.splice.Given as goal
 
 abbrev pub invariant-loop-m : goal.invariant-loop-m

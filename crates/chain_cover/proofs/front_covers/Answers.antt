@@ -1,7 +1,6 @@
 -- `chain_cover::front_covers`: where the first range begins past the docket so do all; where it covers the record that is enough; else those behind decide.
 use mathlib.Core.Path.{◌≡◌, sym, ◌∙◌}
 use native.Mathlib.Omega.{arith}
-use borrow.Author.Rules.{rules}
 use Rattle.model.specs.Coverage.{covers}
 use Rattle.tables.specs.Slots.{lo_of, hi_of, date_of}
 use Rattle.chain_cover.proofs.Walks.{covers_read}

@@ -1,16 +1,8 @@
-use mathlib.Core.Path.{◌≡◌, refl, sym, ◌∙◌}
-use mathlib.Core.Bool.{false}
-use Prim.Native.Nat.{ℕ, ◌<◌}
-use native.Mathlib.Omega.{arith}
-use borrow.Author.Rules.{rules}
-use lib.Dec.{eqb, ltb}
+use mathlib.Core.Path.{◌≡◌}
 use lib.ListN.{length}
-use Rattle.model.specs.Coverage.{covers}
-use Rattle.tables.specs.Slots.{next_of, lo_of, hi_of, date_of}
 use Rattle.tables.specs.Sound.{chain_from}
 use Rattle.chain_cover.specs.Walks.{Ordered}
-use Rattle.chain_cover.proofs.Walks.{covers_read, covers_late, ranges_say, ranges_end, ranges_past, ranges_here, ranges_next}
-use Rattle.chain_cover.proofs.Chains.{On, go_on, shorter}
+use Rattle.chain_cover.proofs.Walks.{ranges_say}
 use Rattle.chain_cover.proofs.is_covered.Given as goal
 
 abbrev pub invariant-loop-at : goal.invariant-loop-at

@@ -1,7 +1,6 @@
 -- `chain_cover::meet`: each way out is one of the ways in which a range is met.
 use mathlib.Core.Path.{sym}
 use native.Mathlib.Omega.{arith}
-use borrow.Author.Rules.{rules}
 use Rattle.chain_cover.proofs.Dates.{met_ended, met_older, met_later}
 use Rattle.chain_cover.proofs.meet.Goals as goal
 

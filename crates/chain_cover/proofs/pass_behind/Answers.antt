@@ -1,5 +1,4 @@
 -- `chain_cover::pass_behind`: the first stays, and `skip` says where the other place comes to.
-use borrow.Author.Rules.{rules}
 use Rattle.chain_cover.proofs.pass_behind.Goals as goal
 
 pub returns : goal.returns

@@ -1,11 +1,8 @@
 -- `seek`: the loop keeps that the chain from `at` is ordered, and that what begins at the docket or later stands in it as in the chain from `from`.
-use mathlib.Core.Path.{◌≡◌, refl, sym, ap, ◌∙◌}
+use mathlib.Core.Path.{refl, sym, ap, ◌∙◌}
 use native.Mathlib.Omega.{arith}
-use lib.ListN.{length}
 use Rattle.tables.specs.Slots.{lo_of}
-use Rattle.tables.specs.Sound.{chain_from}
-use Rattle.chain_cover.specs.Walks.{Ordered}
-use Rattle.chain_cover.specs.Skips.{first_slot, beginning}
+use Rattle.chain_cover.specs.Skips.{first_slot}
 use Rattle.chain_cover.proofs.Chains.{On, go_on, shorter}
 use Rattle.chain_cover.proofs.Skips.{front_end, front_here, front_next}
 use Rattle.chain_cover.proofs.seek.Goals as goal

@@ -1,12 +1,8 @@
-use mathlib.Core.Path.{◌≡◌, refl, sym, ap, ◌∙◌}
-use native.Mathlib.Omega.{arith}
+use mathlib.Core.Path.{◌≡◌}
 use lib.ListN.{length}
-use Rattle.tables.specs.Slots.{lo_of}
 use Rattle.tables.specs.Sound.{chain_from}
 use Rattle.chain_cover.specs.Walks.{Ordered}
-use Rattle.chain_cover.specs.Skips.{first_slot, beginning}
-use Rattle.chain_cover.proofs.Chains.{On, go_on, shorter}
-use Rattle.chain_cover.proofs.Skips.{front_end, front_here, front_next}
+use Rattle.chain_cover.specs.Skips.{beginning}
 use Rattle.chain_cover.proofs.seek.Given as goal
 
 abbrev pub invariant-loop-at : goal.invariant-loop-at

@@ -1,11 +1,8 @@
 -- `chain_cover::skip`: the loop keeps true that the chain from `at` is ordered, and that what reaches the docket of it is what does of the chain from `from`.
-use mathlib.Core.Path.{◌≡◌, refl, sym, ap, ◌∙◌}
+use mathlib.Core.Path.{refl, sym, ap, ◌∙◌}
 use native.Mathlib.Omega.{arith}
-use lib.ListN.{length}
 use Rattle.tables.specs.Slots.{hi_of}
-use Rattle.tables.specs.Sound.{chain_from}
-use Rattle.chain_cover.specs.Walks.{Ordered}
-use Rattle.chain_cover.specs.Skips.{first_slot, reaching}
+use Rattle.chain_cover.specs.Skips.{first_slot}
 use Rattle.chain_cover.proofs.Chains.{On, go_on, shorter}
 use Rattle.chain_cover.proofs.Skips.{front_end, front_here, front_next}
 use Rattle.chain_cover.proofs.skip.Goals as goal

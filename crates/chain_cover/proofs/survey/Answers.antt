@@ -1,10 +1,6 @@
 -- `chain_cover::survey`: the loop keeps true that the chain from `at` is ordered, and that `m` comes to the same there as what was seen does from `head`.
-use mathlib.Core.Path.{◌≡◌, refl, sym, ◌∙◌}
+use mathlib.Core.Path.{refl, sym, ◌∙◌}
 use native.Mathlib.Omega.{arith}
-use lib.ListN.{length}
-use Rattle.tables.specs.Sound.{chain_from}
-use Rattle.chain_cover.specs.Walks.{Ordered}
-use Rattle.chain_cover.specs.Dates.{surveyed}
 use Rattle.chain_cover.proofs.Chains.{On, go_on, shorter}
 use Rattle.chain_cover.proofs.Dates.{walk_end, walk_past, walk_next}
 use Rattle.chain_cover.proofs.survey.Goals as goal

@@ -1,11 +1,8 @@
-use mathlib.Core.Path.{◌≡◌, refl, sym, ◌∙◌}
-use native.Mathlib.Omega.{arith}
+use mathlib.Core.Path.{◌≡◌}
 use lib.ListN.{length}
 use Rattle.tables.specs.Sound.{chain_from}
 use Rattle.chain_cover.specs.Walks.{Ordered}
 use Rattle.chain_cover.specs.Dates.{surveyed}
-use Rattle.chain_cover.proofs.Chains.{On, go_on, shorter}
-use Rattle.chain_cover.proofs.Dates.{walk_end, walk_past, walk_next}
 use Rattle.chain_cover.proofs.survey.Given as goal
 
 abbrev pub invariant-loop-at : goal.invariant-loop-at

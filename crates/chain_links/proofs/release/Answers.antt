@@ -6,7 +6,6 @@ use Rattle.tables.specs.Slots.{slot_at, set_slot, free_slot, with_link}
 use native.Mathlib.Omega.{arith}
 use Rattle.tables.proofs.Slots.{link_small}
 use Rattle.chain_links.specs.Links.{released}
-use borrow.Author.Rules.{rules}
 use Rattle.chain_links.proofs.release.Goals as goal
 
 pub set_free-requires : goal.set_free-requires

@@ -5,7 +5,6 @@ use native.Mathlib.Omega.{arith}
 use Rattle.tables.specs.Slots.{slot_at, set_slot, link_to, with_link}
 use Rattle.tables.proofs.Slots.{kind_small}
 use Rattle.chain_links.specs.Links.{linked}
-use borrow.Author.Rules.{rules}
 use Rattle.chain_links.proofs.set_next.Goals as goal
 
 pub set_link-requires : goal.set_link-requires

@@ -4,7 +4,6 @@ use Prim.Native.Nat.{ℕ, max}
 use native.Mathlib.Omega.{arith}
 use Rattle.tables.specs.Slots.{slot_at, set_slot, date_of, stamp_of, with_date}
 use Rattle.chain_links.specs.Links.{stamped}
-use borrow.Author.Rules.{rules}
 use Rattle.chain_links.proofs.take_later.Goals as goal
 
 pub returns : goal.returns

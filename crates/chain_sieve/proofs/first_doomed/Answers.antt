@@ -1,9 +1,5 @@
 -- `chain_sieve::first_doomed`: the loop keeps true that the first cell that would go is among those from `at` on.
 use mathlib.Core.Path.{sym, ◌∙◌}
-use lib.ListN.{length}
-use Rattle.lists.specs.All.{Exists}
-use Rattle.tables.specs.Sound.{chain_from}
-use Rattle.chain_cells.specs.Sifting.{Chain, OneHeld}
 use Rattle.chain_sieve.specs.Doomed.{doomed}
 use Rattle.chain_sieve.proofs.Walks.{Walking, walking_begins, walking_in_table, walking_found, walking_next, walking_ends}
 use Rattle.chain_sieve.proofs.first_doomed.Goals as goal

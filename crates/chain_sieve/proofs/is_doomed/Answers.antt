@@ -1,6 +1,5 @@
 -- `chain_sieve::is_doomed`: each kind of cell that goes is told by one test of the cell at the slot, and coverage by `covers`.
 use Rattle.chain_sieve.proofs.Tests.{by_kind, by_docket, by_cover, by_range}
-use borrow.Author.Rules.{rules}
 use Rattle.chain_sieve.proofs.is_doomed.Goals as goal
 
 pub returns-in-Deletes : goal.returns-in-Deletes

@@ -1,8 +1,7 @@
 -- `chain_sieve::sieve`: the loop keeps true that whatever chain the table held at first is on its way through the sieve, at the cursor.
-use mathlib.Core.Path.{◌≡◌, refl}
-use lib.ListN.{length}
+use mathlib.Core.Path.{refl}
 use borrow.Author.Rules.{rules}
-use Rattle.chain_cells.specs.Sifting.{Chain, OneHeld, Sifting, left_at, sift_of}
+use Rattle.chain_cells.specs.Sifting.{Sifting, sift_of}
 use Rattle.chain_cells.proofs.Sieves.{cursor_fits, sifting_begins, sifting_ends}
 use Rattle.chain_sieve.specs.Doomed.{doomed}
 use Rattle.chain_sieve.proofs.sieve.Goals as goal

@@ -1,8 +1,6 @@
-use mathlib.Core.Path.{◌≡◌, refl}
+use mathlib.Core.Path.{◌≡◌}
 use lib.ListN.{length}
-use borrow.Author.Rules.{rules}
 use Rattle.chain_cells.specs.Sifting.{Chain, OneHeld, Sifting, left_at, sift_of}
-use Rattle.chain_cells.proofs.Sieves.{cursor_fits, sifting_begins, sifting_ends}
 use Rattle.chain_sieve.specs.Doomed.{doomed}
 use Rattle.chain_sieve.proofs.sieve.Given as goal
 

@@ -11,7 +11,6 @@ use Rattle.check_walk.proofs.Unmarked.{unmarked_le}
 use Rattle.check_walk.proofs.Passed.{walk_sum}
 use Rattle.check_chains.specs.Levels.{chains_checked}
 use Rattle.check_chains.proofs.Levels.{deepest-owed, chains_fail, chains_go}
-use borrow.Author.Rules.{rules}
 use Rattle.check_chains.proofs.chains_fit.Goals as goal
 
 pub returns-then-not-is_top_blank : goal.returns-then-not-is_top_blank

@@ -1,10 +1,10 @@
 -- `levels_fit`: the loop keeps that what the levels left say, over the marks so far, is what all levels say.
 use borrow.Author.Rules.{rules}
 use borrow.Author.Tests.{not-true, not-false}
-use Prim.Native.Nat.{◌+◌, ◌-◌, ◌≤◌}
+use Prim.Native.Nat.{◌≤◌}
 use Rattle.tables.specs.Rows.{settings_of}
 use native.Mathlib.Omega.{arith}
-use Rattle.check_chains.proofs.Levels.{Levels, level_sum, levels_start, levels_end, levels_fail, levels_go}
+use Rattle.check_chains.proofs.Levels.{level_sum, levels_start, levels_end, levels_fail, levels_go}
 use Rattle.check_chains.proofs.levels_fit.Goals as goal
 
 pub deepest_of-deepest-requires : goal.deepest_of-deepest-requires

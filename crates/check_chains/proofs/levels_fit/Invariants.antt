@@ -1,9 +1,5 @@
-use borrow.Author.Rules.{rules}
-use borrow.Author.Tests.{not-true, not-false}
-use Prim.Native.Nat.{◌+◌, ◌-◌, ◌≤◌}
-use Rattle.tables.specs.Rows.{settings_of}
-use native.Mathlib.Omega.{arith}
-use Rattle.check_chains.proofs.Levels.{Levels, level_sum, levels_start, levels_end, levels_fail, levels_go}
+use Prim.Native.Nat.{◌+◌, ◌-◌}
+use Rattle.check_chains.proofs.Levels.{Levels}
 use Rattle.check_chains.proofs.levels_fit.Given as goal
 
 abbrev pub invariant-loop-i : goal.invariant-loop-i

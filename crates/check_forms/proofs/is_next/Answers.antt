@@ -1,5 +1,4 @@
 -- `check_forms::is_next`: order and stamp, each by the callee's answer.
-use borrow.Author.Rules.{rules}
 use Rattle.check_forms.proofs.is_next.Goals as goal
 
 pub returns : goal.returns

@@ -1,5 +1,4 @@
 -- `check_forms::is_owed`: the stamp that was read is the slot's.
-use borrow.Author.Rules.{rules}
 use Rattle.check_forms.proofs.is_owed.Goals as goal
 
 pub returns : goal.returns

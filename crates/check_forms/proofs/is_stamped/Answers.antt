@@ -1,5 +1,4 @@
 -- `check_forms::is_stamped`: the two bounds, of what was read.
-use borrow.Author.Rules.{rules}
 use Rattle.check_forms.proofs.is_stamped.Goals as goal
 
 pub returns : goal.returns

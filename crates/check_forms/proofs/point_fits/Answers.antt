@@ -1,5 +1,4 @@
 -- `check_forms::point_fits`: the tests are the definition's, in another order.
-use borrow.Author.Rules.{rules}
 use Rattle.check_forms.proofs.Asked.{point-asked}
 use Rattle.check_forms.proofs.point_fits.Goals as goal
 

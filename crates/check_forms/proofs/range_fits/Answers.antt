@@ -1,5 +1,4 @@
 -- `check_forms::range_fits`: a range is no put, so that it is owed.
-use borrow.Author.Rules.{rules}
 use Rattle.check_forms.proofs.Asked.{range_asked}
 use Rattle.check_forms.proofs.range_fits.Goals as goal
 

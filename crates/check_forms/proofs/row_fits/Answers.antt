@@ -1,6 +1,5 @@
 -- `check_forms::row_fits`: each arm knows the class, and so which row the definition asks for.
 use Rattle.check_forms.specs.Forms.{row_fits}
-use borrow.Author.Rules.{rules}
 use Rattle.check_forms.proofs.row_fits.Goals as goal
 
 pub returns-in-Free : goal.returns-in-Free

@@ -1,5 +1,4 @@
 -- `check_kinds::is_free`: the four tests of a free row, of what was read.
-use borrow.Author.Rules.{rules}
 use Rattle.check_kinds.proofs.is_free.Goals as goal
 
 pub returns : goal.returns

@@ -1,5 +1,4 @@
 -- `check_kinds::is_range`: the tests of a range delete, of what was read.
-use borrow.Author.Rules.{rules}
 use Rattle.check_kinds.proofs.is_range.Goals as goal
 
 pub returns : goal.returns

@@ -2,7 +2,6 @@
 use borrow.Author.Tests.{not-true, not-false}
 use native.Mathlib.Omega.{arith}
 use Rattle.check_level.proofs.Levels.{points_fail, ranges_fail, level_room, level_ends}
-use borrow.Author.Rules.{rules}
 use Rattle.check_level.proofs.level.Goals as goal
 
 pub returns-then-not-points : goal.returns-then-not-points

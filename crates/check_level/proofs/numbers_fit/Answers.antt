@@ -7,7 +7,6 @@ use Rattle.tables.specs.Rows.{level_row}
 use Rattle.lists.proofs.Branches.{equal, unequal, upto, above}
 use Rattle.table_levels.specs.declared.Level.{Level}
 use Rattle.check_level.specs.Levels.{numbers_fit}
-use borrow.Author.Rules.{rules}
 use Rattle.check_level.proofs.numbers_fit.Goals as goal
 
 pub returns-then-level-count : goal.returns-then-level-count

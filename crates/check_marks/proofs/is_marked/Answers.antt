@@ -1,6 +1,5 @@
 -- `check_marks::is_marked` reads the bit that its definition names.
 use mathlib.Core.Path.{refl}
-use borrow.Author.Rules.{rules}
 use Rattle.check_marks.specs.Marks.{bit, mark_of}
 use Rattle.check_marks.proofs.is_marked.Goals as goal
 

@@ -2,7 +2,6 @@
 use Prim.Native.Nat.{◌/◌, ◌%◌, ◌<◌}
 use native.Mathlib.Omega.{arith}
 use lib.ListN.{get_or}
-use borrow.Author.Rules.{rules}
 use Rattle.check_marks.specs.Marks.{mark_of, with_mark}
 use Rattle.check_marks.proofs.Bits.{add_fits, shifted_one}
 use Rattle.check_marks.proofs.mark.Goals as goal

@@ -1,5 +1,4 @@
 -- `docket_refusal`: the tables are tested first, then hi, then the order of lo and hi, as the definition's cases stand.
-use borrow.Author.Rules.{rules}
 use Rattle.check_refusal.proofs.Refusals.{refused_tables, refused_high, refused_order, allowed}
 use Rattle.check_refusal.proofs.docket_refusal.Goals as goal
 

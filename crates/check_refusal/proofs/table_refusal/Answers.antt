@@ -10,7 +10,6 @@ use mathlib.Core.Bool.{true}
 use Prim.Native.Nat.{◌<◌}
 use Rattle.tables.specs.Slots.{slots_of}
 use Rattle.tables.specs.Sound.{entries_fit, levels_fit}
-use borrow.Author.Rules.{rules}
 use Rattle.check_refusal.proofs.table_refusal.Goals as goal
 
 pub returns-then-not-entries_fit : goal.returns-then-not-entries_fit

@@ -10,7 +10,6 @@ use borrow.Author.Tests.{leb-true}
 use Rattle.tables.specs.Slots.{slots_of}
 use Rattle.check_marks.specs.Marks.{mark_of}
 use Rattle.check_forms.specs.Forms.{row_fits}
-use borrow.Author.Rules.{rules}
 use Rattle.check_walk.proofs.slot_fits.Goals as goal
 
 pub returns-then-not-has_slot : goal.returns-then-not-has_slot

@@ -1,8 +1,5 @@
 -- `guontrem::call_packed`: the refusal and the merges of a call's answer are small enough to stand in one number with what was purged.
 use native.Mathlib.Omega.{arith}
-use borrow.Author.Rules.{rules}
-use Rattle.model.specs.declared.Tally.{Tally}
-use Rattle.model.specs.Calls.{Call}
 use Rattle.tables.specs.Words.{Fits32}
 use Rattle.call_op.specs.Ops.{op_of}
 use Rattle.guontrem.proofs.Numbers.{refusal_fits, merges_fit, packs}

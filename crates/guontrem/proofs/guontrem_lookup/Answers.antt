@@ -1,7 +1,6 @@
 -- `guontrem::guontrem_lookup`: the number and the price that go out are those of the answer that the lookup gives.
 use mathlib.Core.Path.{◌≡◌, ap, ◌∙◌}
 use Prim.Native.Nat.{ℕ}
-use borrow.Author.Rules.{rules}
 use Rattle.lookup.specs.declared.Answer.{Answer}
 use Rattle.lookup.specs.Lookup.{numbers}
 use Rattle.lookup.specs.Counts.{without_price}

@@ -1,6 +1,5 @@
 -- `guontrem::guontrem_lookup_count`: the number that goes out is that of the answer that the grower's lookup gives.
 use mathlib.Core.Path.{ap, ◌∙◌}
-use borrow.Author.Rules.{rules}
 use Rattle.c_packing.specs.Packed.{packed}
 use Rattle.guontrem.proofs.guontrem_lookup_count.Goals as goal
 

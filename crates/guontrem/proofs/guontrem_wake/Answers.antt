@@ -1,6 +1,5 @@
 -- `guontrem::guontrem_wake`: the number that goes out is that of the answer.
 use mathlib.Core.Path.{ap, ◌∙◌}
-use borrow.Author.Rules.{rules}
 use Rattle.c_packing.specs.Packed.{packed_wake}
 use Rattle.guontrem.proofs.guontrem_wake.Goals as goal
 

@@ -1,9 +1,8 @@
 -- `look_up`: the loop keeps that the levels that are left, with the latest date met so far, give what all levels give.
 use mathlib.Core.Path.{◌≡◌, refl, sym, ◌∙◌}
-use Prim.Native.Nat.{ℕ, suc, ◌+◌, ◌-◌, ◌≤◌}
+use Prim.Native.Nat.{ℕ, suc, ◌+◌, ◌-◌}
 use native.Mathlib.Omega.{arith}
 use Rattle.model.specs.Lookup.{lookup}
-use Rattle.tables.specs.Rows.{settings_of}
 use Rattle.tables.specs.Placed.{read_state}
 use Rattle.lookup_level.specs.declared.Decided.{Decided}
 use Rattle.lookup_level.specs.Answers.{settle}

@@ -1,12 +1,9 @@
-use mathlib.Core.Path.{◌≡◌, refl, sym, ◌∙◌}
-use Prim.Native.Nat.{ℕ, suc, ◌+◌, ◌-◌, ◌≤◌}
-use native.Mathlib.Omega.{arith}
+use mathlib.Core.Path.{◌≡◌}
+use Prim.Native.Nat.{◌+◌, ◌-◌, ◌≤◌}
 use Rattle.model.specs.Lookup.{lookup}
 use Rattle.tables.specs.Rows.{settings_of}
 use Rattle.tables.specs.Placed.{read_state}
-use Rattle.lookup_level.specs.declared.Decided.{Decided}
-use Rattle.lookup_level.specs.Answers.{settle}
-use Rattle.lookup.proofs.Levels.{look_from, look_all, look_none, look_next}
+use Rattle.lookup.proofs.Levels.{look_from}
 use Rattle.lookup.proofs.look_up.Given as goal
 
 abbrev pub invariant-loop-left : goal.invariant-loop-left

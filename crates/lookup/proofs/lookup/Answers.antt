@@ -1,6 +1,5 @@
 -- `lookup`: a refusal is answered as it is, and a docket that is allowed is looked up in the levels of sound tables.
 use mathlib.Core.Path.{◌≡◌, sym, ap, ◌∙◌}
-use borrow.Author.Rules.{rules}
 use Rattle.lookup.specs.declared.Answer.{Answer}
 use Rattle.lookup.specs.Found.{found_of}
 use Rattle.lookup.specs.Lookup.{answered, lookup_tables}

@@ -1,6 +1,5 @@
 -- `lookup_count`: each answer is the hall's without its price, and so what the counts of the tables answer.
 use mathlib.Core.Path.{◌≡◌, refl, sym, ap, ◌∙◌}
-use borrow.Author.Rules.{rules}
 use Rattle.lookup.specs.declared.CountAnswer.{CountAnswer}
 use Rattle.lookup.specs.Found.{found_of}
 use Rattle.lookup.specs.Lookup.{answered}

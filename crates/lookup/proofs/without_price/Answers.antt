@@ -1,6 +1,5 @@
 -- `without_price`: each case keeps all but the price.
 use mathlib.Core.Path.{sym, ap}
-use borrow.Author.Rules.{rules}
 use Rattle.lookup.specs.Counts.{without_price}
 use Rattle.lookup.proofs.without_price.Goals as goal
 

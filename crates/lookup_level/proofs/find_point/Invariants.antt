@@ -1,10 +1,8 @@
-use mathlib.Core.Path.{◌≡◌, refl, sym, ◌∙◌}
-use native.Mathlib.Omega.{arith}
+use mathlib.Core.Path.{◌≡◌}
 use lib.ListN.{length}
 use Rattle.tables.specs.Sound.{chain_from}
 use Rattle.chain_cover.specs.Walks.{Ordered}
-use Rattle.chain_cover.proofs.Chains.{On, go_on, shorter}
-use Rattle.lookup_level.proofs.Walks.{points_say, points_end, points_past, points_here, points_next}
+use Rattle.lookup_level.proofs.Walks.{points_say}
 use Rattle.lookup_level.proofs.find_point.Given as goal
 
 abbrev pub invariant-loop-at : goal.invariant-loop-at

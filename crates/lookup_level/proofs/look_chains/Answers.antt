@@ -1,7 +1,6 @@
 -- `lookup_level::look_chains`: a point of the docket decides; where there is none, the latest date of the ranges over it is met, and the deeper levels decide.
 use mathlib.Core.Path.{◌≡◌, refl, ap, ◌∙◌}
 use Prim.Native.Nat.{ℕ, max}
-use borrow.Author.Rules.{rules}
 use Rattle.lookup_level.specs.declared.Decided.TheVariants.{Value, Absent, Deeper}
 use Rattle.lookup_level.specs.declared.Decided.{Decided}
 use Rattle.lookup_level.specs.Answers.{meets, chain_level}

@@ -4,7 +4,6 @@ use mathlib.Core.Bool.{false}
 use native.Mathlib.Omega.{arith}
 use lib.Dec.{leb}
 use borrow.Author.Tests.{eq-eqb, ne_eqb}
-use borrow.Author.Rules.{rules}
 use Rattle.tables.specs.Slots.{kind_of, stamp_of}
 use Rattle.lists.proofs.Branches.{upto, above}
 use Rattle.lookup_level.proofs.tell.Goals as goal

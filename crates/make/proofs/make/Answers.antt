@@ -11,7 +11,6 @@ use Rattle.tables.specs.Slots.{entry_length}
 use Rattle.tables.specs.Rows.{level_length}
 use Rattle.tables.proofs.Lengths.{entries_facts}
 use Rattle.make.proofs.Answers.{made_not_fitting, made_not_allowed, made_other_length, made_accepted}
-use borrow.Author.Rules.{rules}
 use Rattle.make.proofs.make.Goals as goal
 
 pub returns-then-not-entries_fit : goal.returns-then-not-entries_fit

@@ -1,7 +1,6 @@
 -- `free_slot`: its one test tells the last slot, which ends the chain, from the others.
 use borrow.Author.Tests.{eq-eqb, ne_eqb}
 use native.Mathlib.Omega.{arith}
-use borrow.Author.Rules.{rules}
 use Rattle.make_fresh.proofs.free_slot.Goals as goal
 
 pub returns-then-slot-slots : goal.returns-then-slot-slots

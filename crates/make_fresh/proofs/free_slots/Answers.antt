@@ -2,10 +2,10 @@
 use mathlib.Core.Path.{◌≡◌, ◌∙◌}
 use lib.ListN.{length}
 use Rattle.tables.specs.Slots.{entry_length}
-use Prim.Native.Nat.{◌+◌, ◌-◌, ◌≤◌}
+use Prim.Native.Nat.{◌+◌}
 use native.Mathlib.Omega.{arith}
 use Rattle.make_fresh.specs.Fresh.{made_entries}
-use Rattle.make_fresh.proofs.Parts.{Agree, agree_none, agree_next}
+use Rattle.make_fresh.proofs.Parts.{agree_none, agree_next}
 use Rattle.make_fresh.proofs.Entries.{slot_parts, length-made_entries, made_entries_first, made_entries_slot, entries_made}
 use Rattle.make_fresh.proofs.free_slots.Goals as goal
 

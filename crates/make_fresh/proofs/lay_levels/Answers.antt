@@ -1,13 +1,11 @@
 -- `lay_levels`: the loop keeps that the settings stand in the first row, and that the rows before `i` are those of the made table.
 use mathlib.Core.Path.{◌≡◌, sym, ◌∙◌}
 use lib.ListN.{length}
-use borrow.Author.Rules.{rules}
-use Prim.Native.Nat.{◌+◌, ◌-◌, ◌≤◌}
+use Prim.Native.Nat.{◌+◌}
 use native.Mathlib.Omega.{arith}
-use Rattle.tables.specs.Rows.{settings_of, no_row, level_length}
+use Rattle.tables.specs.Rows.{no_row, level_length}
 use Rattle.tables.proofs.Rows.{length-set_settings, settings_same, settings_stay}
-use Rattle.make_fresh.specs.Fresh.{made_levels}
-use Rattle.make_fresh.proofs.Parts.{Agree, agree_none, agree_next}
+use Rattle.make_fresh.proofs.Parts.{agree_none, agree_next}
 use Rattle.make_fresh.proofs.Levels.{row_parts, length-made_levels, made_levels_row, levels_made}
 use Rattle.make_fresh.proofs.lay_levels.Goals as goal
 

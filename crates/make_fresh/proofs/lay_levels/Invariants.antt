@@ -1,13 +1,9 @@
-use mathlib.Core.Path.{◌≡◌, sym, ◌∙◌}
-use lib.ListN.{length}
-use borrow.Author.Rules.{rules}
+use mathlib.Core.Path.{◌≡◌}
 use Prim.Native.Nat.{◌+◌, ◌-◌, ◌≤◌}
-use native.Mathlib.Omega.{arith}
-use Rattle.tables.specs.Rows.{settings_of, no_row, level_length}
-use Rattle.tables.proofs.Rows.{length-set_settings, settings_same, settings_stay}
+use Rattle.tables.specs.Rows.{settings_of}
 use Rattle.make_fresh.specs.Fresh.{made_levels}
-use Rattle.make_fresh.proofs.Parts.{Agree, agree_none, agree_next}
-use Rattle.make_fresh.proofs.Levels.{row_parts, length-made_levels, made_levels_row, levels_made}
+use Rattle.make_fresh.proofs.Parts.{Agree}
+use Rattle.make_fresh.proofs.Levels.{row_parts}
 use Rattle.make_fresh.proofs.lay_levels.Given as goal
 
 abbrev pub invariant-loop-i : goal.invariant-loop-i

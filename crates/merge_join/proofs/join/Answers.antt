@@ -1,5 +1,4 @@
 -- `merge_join::join`: above the deepest level the merged level is the answer, and at the deepest the settled one.
-use borrow.Author.Rules.{rules}
 use borrow.Author.Tests.{not-true, not-false}
 use Rattle.merge_join.specs.Joining.{merging}
 use Rattle.merge_join.proofs.Settling.{joins_above, joins_deepest}

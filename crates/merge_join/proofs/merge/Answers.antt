@@ -1,7 +1,6 @@
 -- `merge_join::merge`: whatever levels the table held, what each call leaves is what the next one asks for, and the last leaves the merged level.
 use Prim.Native.Nat.{◌+◌, ◌≤◌}
 use native.Mathlib.Omega.{arith}
-use borrow.Author.Rules.{rules}
 use Rattle.chain_cells.specs.Splicing.{Spliced}
 use Rattle.merge_strike.specs.Striking.{Struck}
 use Rattle.merge_unite.specs.Uniting.{United}

@@ -1,7 +1,6 @@
 -- `merge_join::settle`: whatever level the table held, its deletes among the points go, then all its ranges, and the settled level is left.
 use Prim.Native.Nat.{◌+◌, ◌≤◌}
 use native.Mathlib.Omega.{arith}
-use borrow.Author.Rules.{rules}
 use Rattle.chain_cells.specs.Sifting.{Sifted}
 use Rattle.chain_sieve.specs.Doomed.{doomed}
 use Rattle.chain_sieve.specs.declared.Doomed.TheVariants.{All, Deletes}

@@ -1,9 +1,8 @@
 -- The loop keeps: the merges from level i on lead to what all merges lead to.
 use borrow.Author.Rules.{rules}
-use mathlib.Core.Path.{◌≡◌, refl}
-use Prim.Native.Nat.{◌+◌, ◌-◌, ◌<◌, ◌≤◌}
+use mathlib.Core.Path.{refl}
+use Prim.Native.Nat.{◌+◌, ◌<◌, ◌≤◌}
 use native.Mathlib.Omega.{arith}
-use lib.ListN.{length}
 use Rattle.model.specs.Steps.{begin, merge_level, merge_all}
 use Rattle.merge_levels.specs.Laid.{Store, Laid, Worked}
 use Rattle.merge_levels.proofs.Store.{laid_length, laid_deepest, laid_allowed}

@@ -1,5 +1,4 @@
 -- The join is of levels i and i+1 of every store that the tables hold, and the two rows are then those of the merged state.
-use borrow.Author.Rules.{rules}
 use mathlib.Core.Path.{◌≡◌, ap}
 use Prim.Native.Nat.{ℕ, suc, ◌+◌, ◌<◌, ◌≤◌}
 use native.Mathlib.Omega.{arith}

@@ -1,5 +1,4 @@
 -- Both tests are asked of the level's row.
-use borrow.Author.Rules.{rules}
 use mathlib.Core.Path.{◌≡◌, sym, ap, ◌∙◌}
 use native.Mathlib.Omega.{arith}
 use Rattle.model.specs.Steps.{overfull, overdue}

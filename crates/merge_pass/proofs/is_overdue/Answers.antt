@@ -1,5 +1,4 @@
 -- Nothing is owed, or the limit has been reached or not.
-use borrow.Author.Rules.{rules}
 use Rattle.merge_pass.proofs.Due.{overdue_none, overdue_owing}
 use Rattle.merge_pass.proofs.is_overdue.Goals as goal
 

@@ -1,5 +1,4 @@
 -- The level tells which of the two tests is the model's.
-use borrow.Author.Rules.{rules}
 use Rattle.merge_pass.proofs.Due.{overfull-buffer, overfull_level}
 use Rattle.merge_pass.proofs.is_overfull.Goals as goal
 

@@ -1,5 +1,4 @@
 -- The test is the model's, and what is merged is that level of every store that the tables hold.
-use borrow.Author.Rules.{rules}
 use mathlib.Core.Path.{◌≡◌, ◌∙◌}
 use native.Mathlib.Omega.{arith}
 use Rattle.lists.proofs.Branches.{fails, holds}

@@ -1,6 +1,5 @@
 -- `merge_strike::is_struck`: the first point left decides for the points and the front for the ranges, and one of the two answers is enough.
 use mathlib.Core.Path.{sym, ◌∙◌}
-use borrow.Author.Rules.{rules}
 use Rattle.merge_strike.proofs.is_struck.Goals as goal
 
 pub returns-then-first_names : goal.returns-then-first_names

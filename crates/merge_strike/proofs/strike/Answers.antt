@@ -1,8 +1,6 @@
 -- `merge_strike::strike`: the loop keeps true that whatever chains met at the start, striking them has come to `m`.
-use mathlib.Core.Path.{◌≡◌, refl}
+use mathlib.Core.Path.{refl}
 use borrow.Author.Rules.{rules}
-use lib.ListN.{length}
-use Rattle.merge_strike.specs.Striking.{Meeting, MeetingHeld, Striking, left_of}
 use Rattle.merge_strike.proofs.Strikes.{strike_of, upper-ranges, striking_begins, striking_ends}
 use Rattle.merge_strike.proofs.strike.Goals as goal
 

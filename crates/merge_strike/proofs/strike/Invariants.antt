@@ -1,8 +1,7 @@
-use mathlib.Core.Path.{◌≡◌, refl}
-use borrow.Author.Rules.{rules}
+use mathlib.Core.Path.{◌≡◌}
 use lib.ListN.{length}
 use Rattle.merge_strike.specs.Striking.{Meeting, MeetingHeld, Striking, left_of}
-use Rattle.merge_strike.proofs.Strikes.{strike_of, upper-ranges, striking_begins, striking_ends}
+use Rattle.merge_strike.proofs.Strikes.{strike_of}
 use Rattle.merge_strike.proofs.strike.Given as goal
 
 abbrev pub invariant-loop-m : goal.invariant-loop-m

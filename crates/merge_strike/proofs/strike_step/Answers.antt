@@ -1,5 +1,4 @@
 -- `merge_strike::strike_step`: both upper chains are moved on to the lower point's docket, and the point goes where one of them strikes it there.
-use borrow.Author.Rules.{rules}
 use Rattle.merge_strike.proofs.Strikes.{lower_in_table, points_walk, ranges_walk, points_asked, ranges_asked, strikes}
 use Rattle.merge_strike.proofs.strike_step.Goals as goal
 

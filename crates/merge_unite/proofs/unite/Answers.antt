@@ -1,9 +1,8 @@
 -- `merge_unite::unite`: the loop keeps that, whatever two chains of ranges the table held, it is on the way to unite them, and each turn leaves less to see.
-use mathlib.Core.Path.{◌≡◌, refl}
-use lib.ListN.{length}
+use mathlib.Core.Path.{refl}
 use borrow.Author.Rules.{rules}
 use Rattle.chain_cells.specs.Splicing.{Chains}
-use Rattle.merge_unite.specs.Uniting.{RangesHeld, Uniting, to_see}
+use Rattle.merge_unite.specs.Uniting.{RangesHeld, Uniting}
 use Rattle.merge_unite.proofs.Ends.{uniting_begins, uniting_ends}
 use Rattle.merge_unite.proofs.unite.Goals as goal
 

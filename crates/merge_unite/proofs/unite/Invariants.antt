@@ -1,9 +1,7 @@
-use mathlib.Core.Path.{◌≡◌, refl}
+use mathlib.Core.Path.{◌≡◌}
 use lib.ListN.{length}
-use borrow.Author.Rules.{rules}
 use Rattle.chain_cells.specs.Splicing.{Chains}
 use Rattle.merge_unite.specs.Uniting.{RangesHeld, Uniting, to_see}
-use Rattle.merge_unite.proofs.Ends.{uniting_begins, uniting_ends}
 use Rattle.merge_unite.proofs.unite.Given as goal
 
 abbrev pub invariant-loop-m : goal.invariant-loop-m

@@ -1,7 +1,6 @@
 -- `merge_unite::unite_step`: an upper range that comes first is passed; else the lower one at the cursor goes where the two are alike, and stays where not.
 use mathlib.Core.Path.{◌≡◌, sym, ◌∙◌}
 use mathlib.Core.Bool.{true, false}
-use Prim.Native.Nat.{ℕ}
 use native.Mathlib.Omega.{arith}
 use borrow.Author.Rules.{rules}
 use Rattle.chain_cells.specs.Cells.{cell_at, cell_key}

@@ -1,10 +1,7 @@
 -- `run_script::serve`: the loop keeps the room of every table, the state between two blocks and the blocks that led to it; each turn uses up one of its turns.
-use mathlib.Core.Path.{◌≡◌, refl}
+use mathlib.Core.Path.{refl}
 use borrow.Author.Rules.{rules}
-use lib.ListN.{length}
-use Rattle.run_script.specs.Served.{Serving}
-use Rattle.run_script.specs.Turns.{stands}
-use Rattle.run_script.proofs.Runs.{Going, begins, goes_further}
+use Rattle.run_script.proofs.Runs.{begins, goes_further}
 use Rattle.run_script.proofs.serve.Goals as goal
 
 pub loop-turns-init : goal.loop-turns-init

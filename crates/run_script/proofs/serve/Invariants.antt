@@ -1,9 +1,8 @@
-use mathlib.Core.Path.{◌≡◌, refl}
-use borrow.Author.Rules.{rules}
+use mathlib.Core.Path.{◌≡◌}
 use lib.ListN.{length}
 use Rattle.run_script.specs.Served.{Serving}
 use Rattle.run_script.specs.Turns.{stands}
-use Rattle.run_script.proofs.Runs.{Going, begins, goes_further}
+use Rattle.run_script.proofs.Runs.{Going}
 use Rattle.run_script.proofs.serve.Given as goal
 
 abbrev pub invariant-loop-turns : goal.invariant-loop-turns

@@ -1,5 +1,4 @@
 -- `scan::next`: what an advance of the sweep leaves to come is what was still to come after the docket at which it stood.
-use borrow.Author.Rules.{rules}
 use Rattle.tables.specs.Words.{Fits32}
 use Rattle.scan_sweep.proofs.Arriving.{advanced_sweeping, advanced_rows}
 use Rattle.scan.proofs.next.Goals as goal

@@ -1,5 +1,4 @@
 -- `scan::open`: where the scan is not refused the sweep sets out and searches.
-use borrow.Author.Rules.{rules}
 use Rattle.scan.proofs.Refusals.{allowed_readable, allowed_sweeping, begins, stays_ended}
 use Rattle.scan.proofs.open.Goals as goal
 

@@ -1,5 +1,4 @@
 -- `scan::row_of`: the slot that the sweep has come to is in the table, and the row is what its words are read as.
-use borrow.Author.Rules.{rules}
 use Rattle.scan.proofs.row_of.Goals as goal
 
 pub returns : goal.returns

@@ -2,7 +2,6 @@
 use mathlib.Core.Path.{◌≡◌}
 use Prim.Native.Nat.{◌-◌}
 use lib.ListN.{length}
-use Rattle.tables.specs.Words.{Fits32}
 use Rattle.check_refusal.specs.Dockets.{docket_refusal}
 use Rattle.scan.proofs.Counts.{counted}
 use Rattle.scan.proofs.Filling.{so_far}

@@ -1,5 +1,4 @@
 -- `scan::start`: as `scan::open`.
-use borrow.Author.Rules.{rules}
 use Rattle.scan.proofs.Refusals.{allowed_readable, allowed_sweeping, begins, stays_ended}
 use Rattle.scan.proofs.start.Goals as goal
 

@@ -1,5 +1,4 @@
 -- `scan_fences::see`: a later date takes the place of those above, and one that is no later does not; either way the nearer beginning counts.
-use borrow.Author.Rules.{rules}
 use borrow.Author.Tests.{lt-ltb, le-ltb}
 use Rattle.scan_fences.proofs.see.Goals as goal
 

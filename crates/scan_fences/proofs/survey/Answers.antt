@@ -1,19 +1,15 @@
 -- `scan_fences::survey`: the loop keeps what a survey of the first `i` levels says, and that with the levels still to come it is the survey of all.
 use mathlib.Core.Path.{◌≡◌, sym, ap, ◌∙◌}
-use mathlib.Core.List.{List}
-use Prim.Native.Nat.{ℕ, ◌+◌, ◌-◌, ◌*◌, ◌<◌, ◌≤◌}
+use Prim.Native.Nat.{◌+◌, ◌-◌, ◌*◌, ◌<◌, ◌≤◌}
 use native.Mathlib.Numerals.{add-one}
 use native.Mathlib.Omega.{arith}
-use borrow.Author.Rules.{rules}
 use lib.ListN.{length, length-set}
-use Rattle.lists.specs.Lists.{iterate}
 use Rattle.lists.proofs.Loops.{iterate_end, iterate_next}
 use Rattle.tables.specs.Words.{Fits32}
 use Rattle.chain_cover.proofs.Fronts.{advanced_ordered}
-use Rattle.scan_fences.specs.Fences.{unseen, Survey, survey_level, view, surveyed}
+use Rattle.scan_fences.specs.Fences.{Survey, survey_level, view, surveyed}
 use Rattle.scan_fences.proofs.Levels.{first_low, behind_low}
-use Rattle.scan_fences.proofs.Surveys.{level_surveyed, Surveying, surveying_none, surveying_next}
-use Rattle.scan_fences.proofs.survey.Invariants.{Going}
+use Rattle.scan_fences.proofs.Surveys.{level_surveyed, surveying_none, surveying_next}
 use Rattle.scan_fences.proofs.survey.Goals as goal
 
 pub loop-i-init : goal.loop-i-init

@@ -1,17 +1,9 @@
-use mathlib.Core.Path.{◌≡◌, sym, ap, ◌∙◌}
+use mathlib.Core.Path.{◌≡◌}
 use mathlib.Core.List.{List}
-use Prim.Native.Nat.{ℕ, ◌+◌, ◌-◌, ◌*◌, ◌<◌, ◌≤◌}
-use native.Mathlib.Numerals.{add-one}
-use native.Mathlib.Omega.{arith}
-use borrow.Author.Rules.{rules}
-use lib.ListN.{length, length-set}
+use Prim.Native.Nat.{ℕ, ◌-◌, ◌≤◌}
 use Rattle.lists.specs.Lists.{iterate}
-use Rattle.lists.proofs.Loops.{iterate_end, iterate_next}
-use Rattle.tables.specs.Words.{Fits32}
-use Rattle.chain_cover.proofs.Fronts.{advanced_ordered}
-use Rattle.scan_fences.specs.Fences.{unseen, Survey, survey_level, view, surveyed}
-use Rattle.scan_fences.proofs.Levels.{first_low, behind_low}
-use Rattle.scan_fences.proofs.Surveys.{level_surveyed, Surveying, surveying_none, surveying_next}
+use Rattle.scan_fences.specs.Fences.{unseen, Survey, survey_level}
+use Rattle.scan_fences.proofs.Surveys.{Surveying}
 use Rattle.scan_fences.proofs.survey.Given as goal
 
 -- What is known of levels from i on, where v was seen of those above.

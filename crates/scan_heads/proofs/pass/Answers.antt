@@ -3,7 +3,6 @@ use mathlib.Core.Path.{sym}
 use native.Mathlib.Omega.{arith}
 use Rattle.chain_cover.proofs.Chains.{go_on}
 use Rattle.scan_heads.proofs.Leads.{led-kept, led-sunk}
-use borrow.Author.Rules.{rules}
 use Rattle.scan_heads.proofs.pass.Goals as goal
 
 pub next_of-next-requires : goal.next_of-next-requires

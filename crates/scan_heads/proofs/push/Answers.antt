@@ -1,5 +1,4 @@
 -- `scan_heads::push`: the first and the new one change places where the new one is less.
-use borrow.Author.Rules.{rules}
 use Rattle.scan_heads.proofs.push.Goals as goal
 
 pub returns : goal.returns

@@ -1,5 +1,4 @@
 -- `scan_heads::sink`: each of the numbers is the lesser or the greater of two.
-use borrow.Author.Rules.{rules}
 use Rattle.scan_heads.proofs.sink.Goals as goal
 
 pub returns : goal.returns

@@ -1,7 +1,6 @@
 -- `scan_step::go`: the record is passed, and each way out is a branch of the definition: before the start, hidden, a delete, or found.
 use mathlib.Core.Path.{sym, ◌∙◌}
 use native.Mathlib.Omega.{arith}
-use borrow.Author.Rules.{rules}
 use Rattle.scan_heads.proofs.Passing.{slot_ordered, slot_some, slot_on}
 use Rattle.scan_step.proofs.Branches.{gone_before, gone_hidden, gone_delete, gone_found}
 use Rattle.scan_step.proofs.go.Goals as goal

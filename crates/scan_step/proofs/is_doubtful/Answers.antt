@@ -1,7 +1,6 @@
 -- `scan_step::is_doubtful`: past the fence it is, and before it the date decides.
 use mathlib.Core.Path.{sym}
 use native.Mathlib.Omega.{arith}
-use borrow.Author.Rules.{rules}
 use Rattle.scan_heads.proofs.Passing.{slot_on}
 use Rattle.scan_step.proofs.Branches.{doubtful_fenced, doubtful_before}
 use Rattle.scan_step.proofs.is_doubtful.Goals as goal

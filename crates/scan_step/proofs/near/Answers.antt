@@ -2,7 +2,6 @@
 use mathlib.Core.Path.{sym, ◌∙◌}
 use Prim.Native.Nat.{◌≤◌}
 use native.Mathlib.Omega.{arith}
-use borrow.Author.Rules.{rules}
 use Rattle.scan_step.specs.Sweeps.{next_key}
 use Rattle.scan_step.proofs.Branches.{undoubted, neared_stands, neared-gone}
 use Rattle.scan_step.proofs.Shown.{later_shown}

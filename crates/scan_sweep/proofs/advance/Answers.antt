@@ -1,8 +1,6 @@
 -- `scan_sweep::advance`: one step past a record is enough, or the search from where it leads arrives where the sweep was to arrive.
-use Rattle.tables.specs.Words.{Fits32}
 use Rattle.scan_step.proofs.Steps.{standing_sweeping, near_leads}
 use Rattle.scan_sweep.proofs.Arriving.{advanced_at_once, advanced_later}
-use borrow.Author.Rules.{rules}
 use Rattle.scan_sweep.proofs.advance.Goals as goal
 
 pub returns-then-r-eq-ARRIVED : goal.returns-then-r-eq-ARRIVED

@@ -1,6 +1,5 @@
 -- `scan_sweep::cross`: the survey is that of the first record's docket, and the sweep takes over what it says.
 use mathlib.Core.Path.{◌≡◌, ap}
-use borrow.Author.Rules.{rules}
 use Rattle.scan_fences.specs.Fences.{View}
 use Rattle.scan_sweep.specs.Sweeps.{viewing, view_of}
 use Rattle.scan_sweep.proofs.cross.Goals as goal

@@ -1,7 +1,6 @@
 -- `scan_sweep::is_hidden`: by a stamp past the latest date it is not; else the date tells where the levels above suffice to have it, and where not, they do.
 use mathlib.Core.Path.{sym}
 use native.Mathlib.Omega.{arith}
-use borrow.Author.Rules.{rules}
 use Rattle.scan_heads.proofs.Passing.{slot_on}
 use Rattle.scan_step.proofs.Shown.{later_shown, earlier_hidden}
 use Rattle.scan_sweep.proofs.is_hidden.Goals as goal

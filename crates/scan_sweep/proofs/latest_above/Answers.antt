@@ -1,7 +1,6 @@
 -- `scan_sweep::latest_above`: a survey of the levels above, on a copy of the ranges.
 use mathlib.Core.Path.{◌≡◌}
 use native.Mathlib.Omega.{arith}
-use borrow.Author.Rules.{rules}
 use Rattle.scan_fences.specs.Fences.{View, surveyed}
 use Rattle.scan_step.specs.Sweeps.{next_key, next_level}
 use Rattle.scan_step.proofs.Shown.{above_ready, above_is}

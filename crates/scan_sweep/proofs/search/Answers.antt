@@ -1,9 +1,6 @@
 -- `scan_sweep::search`: the loop keeps that from here on the sweep arrives where it was to arrive, and each turn passes a record.
-use mathlib.Core.Path.{◌≡◌, refl, sym, ◌∙◌}
-use Rattle.tables.specs.Words.{Fits32}
-use Rattle.scan_step.specs.Sweeps.{Sweeping}
-use Rattle.scan_step.proofs.Steps.{standing_sweeping, steps_left, fewer_steps}
-use Rattle.scan_sweep.specs.Sweeps.{arrived}
+use mathlib.Core.Path.{refl, sym, ◌∙◌}
+use Rattle.scan_step.proofs.Steps.{standing_sweeping, fewer_steps}
 use Rattle.scan_sweep.proofs.Crossing.{step_stepped}
 use Rattle.scan_sweep.proofs.Arriving.{turned, stopped}
 use Rattle.scan_sweep.proofs.search.Goals as goal

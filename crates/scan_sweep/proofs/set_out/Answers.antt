@@ -4,14 +4,11 @@ use mathlib.Core.Path.{◌≡◌, refl, sym, ap, ◌∙◌}
 use Prim.Native.Nat.{ℕ, ◌+◌, ◌-◌, ◌*◌, ◌<◌, ◌≤◌}
 use native.Mathlib.Numerals.{add-one}
 use native.Mathlib.Omega.{arith}
-use borrow.Author.Rules.{rules}
-use lib.ListN.{length, length-set}
-use Rattle.lists.specs.Lists.{iterate}
+use lib.ListN.{length-set}
 use Rattle.lists.proofs.Loops.{iterate_end, iterate_next}
-use Rattle.tables.specs.Rows.{settings_of, level_row}
+use Rattle.tables.specs.Rows.{settings_of}
 use Rattle.tables.specs.Sound.{chain_from}
 use Rattle.table_levels.specs.declared.Level.{Level}
-use Rattle.table_levels.specs.Levels.{level_at}
 use Rattle.chain_cover.specs.Skips.{first_slot, beginning}
 use Rattle.chain_cover.specs.Fronts.{front_at}
 use Rattle.chain_cover.proofs.Fronts.{front_at_ordered}

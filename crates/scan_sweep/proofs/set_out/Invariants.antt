@@ -1,25 +1,14 @@
 use mathlib.Core.List.{List}
-use mathlib.Core.Path.{◌≡◌, refl, sym, ap, ◌∙◌}
-use Prim.Native.Nat.{ℕ, ◌+◌, ◌-◌, ◌*◌, ◌<◌, ◌≤◌}
-use native.Mathlib.Numerals.{add-one}
-use native.Mathlib.Omega.{arith}
-use borrow.Author.Rules.{rules}
-use lib.ListN.{length, length-set}
+use mathlib.Core.Path.{◌≡◌}
+use Prim.Native.Nat.{ℕ, ◌+◌, ◌-◌, ◌≤◌}
+use lib.ListN.{length}
 use Rattle.lists.specs.Lists.{iterate}
-use Rattle.lists.proofs.Loops.{iterate_end, iterate_next}
 use Rattle.tables.specs.Rows.{settings_of, level_row}
-use Rattle.tables.specs.Sound.{chain_from}
-use Rattle.table_levels.specs.declared.Level.{Level}
-use Rattle.table_levels.specs.Levels.{level_at}
-use Rattle.chain_cover.specs.Skips.{first_slot, beginning}
 use Rattle.chain_cover.specs.Fronts.{front_at}
-use Rattle.chain_cover.proofs.Fronts.{front_at_ordered}
 use Rattle.scan_heads.specs.declared.Heads.{Heads}
 use Rattle.scan_heads.specs.Heads.{head_at, pushed}
 use Rattle.scan_fences.specs.Fences.{put_front}
-use Rattle.scan_fences.proofs.Levels.{put_length, first_low, behind_low}
-use Rattle.scan_sweep.specs.Sweeps.{first_from, opened_heads, opened_ranges, opened}
-use Rattle.scan_sweep.proofs.Opening.{front_is_ordered, front_small}
+use Rattle.scan_sweep.specs.Sweeps.{first_from, opened_heads, opened_ranges}
 use Rattle.scan_sweep.proofs.set_out.Given as goal
 
 -- What a turn does to the heads, and what it does to the ranges.

@@ -1,6 +1,5 @@
 -- `scan_sweep::step`: past hi nothing is left, a docket past the fence is crossed to, and a record before it is passed.
 use mathlib.Core.Path.{sym}
-use borrow.Author.Rules.{rules}
 use Rattle.scan_sweep.proofs.Crossing.{step_none, step_crosses, step_goes}
 use Rattle.scan_sweep.proofs.step.Goals as goal
 

@@ -1,6 +1,5 @@
 -- `script_buffer::end_line`: the line that is kept is carried out, and what it answers is printed after what waited.
 use mathlib.Core.Path.{sym}
-use borrow.Author.Rules.{rules}
 use native.Mathlib.Omega.{arith}
 use lib.Seq.{length-take-le}
 use Rattle.script_prints.proofs.Digits.{length-printed}

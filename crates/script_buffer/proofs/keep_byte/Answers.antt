@@ -1,6 +1,5 @@
 -- `script_buffer::keep_byte`: a line that fills its room stays as it is, and any other has the byte after those that were kept.
 use Prim.Native.Nat.{◌<◌}
-use borrow.Author.Rules.{rules}
 use native.Mathlib.Omega.{arith}
 use Rattle.script_buffer.proofs.Steps.{Keeps, keep_none, keep_one}
 use Rattle.script_buffer.proofs.keep_byte.Goals as goal

@@ -1,7 +1,5 @@
 -- `script_buffer::take_byte`: a line feed ends the line as `end_line` does, and any other byte is kept as `keep_byte` does.
-use borrow.Author.Rules.{rules}
 use native.Mathlib.Omega.{arith}
-use Rattle.script_buffer.specs.Bytes.{Standing}
 use Rattle.script_buffer.specs.Room.{standing}
 use Rattle.script_buffer.proofs.Steps.{takes_end, takes_byte}
 use Rattle.script_buffer.proofs.take_byte.Goals as goal

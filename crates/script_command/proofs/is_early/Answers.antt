@@ -1,5 +1,4 @@
 -- `script_command::is_early`: with a store no command is too early, without one any but a making.
-use borrow.Author.Rules.{rules}
 use borrow.Author.Tests.{eq-eqb, ne_eqb}
 use Rattle.script_command.proofs.is_early.Goals as goal
 

@@ -1,11 +1,8 @@
 -- `script_command::run_command`: each arm carries out the command that it is for, and a call before any making is answered by 9.
-use mathlib.Core.Path.{◌≡◌, sym, ap, ◌∙◌}
-use borrow.Author.Rules.{rules}
+use mathlib.Core.Path.{sym, ap, ◌∙◌}
 use Rattle.call_op.specs.Ops.{op_of}
-use Rattle.script_lines.specs.declared.Command.{Command}
-use Rattle.script_store.specs.Memory.{Memory, Stepped, does}
+use Rattle.script_store.specs.Memory.{does}
 use Rattle.script_store.specs.Coded.{memory, stepped}
-use Rattle.script_command.specs.Script.{carried_out, command_step}
 use Rattle.script_command.proofs.Commands.{carried, early}
 use Rattle.script_command.proofs.run_command.Goals as goal
 

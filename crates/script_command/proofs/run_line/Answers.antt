@@ -2,11 +2,9 @@
 use mathlib.Core.Path.{◌≡◌, refl, sym, ap, ◌∙◌}
 use mathlib.Core.List.{List}
 use Prim.Native.Nat.{ℕ}
-use borrow.Author.Rules.{rules}
 use lib.ListN.{length}
 use Rattle.script_lines.specs.Lines.{line_of}
 use Rattle.script_store.specs.declared.Turn.{Turn}
-use Rattle.script_store.specs.Memory.{Memory}
 use Rattle.script_command.specs.Script.{line_step}
 use Rattle.script_store.specs.Coded.{Fits, memory, stepped}
 use Rattle.script_command.proofs.Commands.{unreadable, commanded}

@@ -1,6 +1,5 @@
 -- `script_fields::is_digit`: past the text no digit stands; within it, the two tests of the byte are the two of the definition.
 use mathlib.Core.Path.{sym}
-use borrow.Author.Rules.{rules}
 use borrow.Author.Tests.{le-leb, lt-leb}
 use Rattle.script_fields.proofs.Reading.{starts_here, starts_past}
 use Rattle.script_fields.proofs.is_digit.Goals as goal

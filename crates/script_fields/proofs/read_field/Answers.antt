@@ -1,6 +1,5 @@
 -- `script_fields::read_field`: past the text and at a byte other than a blank no field stands; after a blank it is the number there.
 use mathlib.Core.Path.{sym, ◌∙◌}
-use borrow.Author.Rules.{rules}
 use Rattle.script_fields.proofs.Blanks.{no_field, no_blank, blank}
 use Rattle.script_fields.proofs.read_field.Goals as goal
 

@@ -1,5 +1,4 @@
 -- `script_fields::read_last`: the field there is the last one where it ends with the text, and there is none where bytes follow.
-use borrow.Author.Rules.{rules}
 use borrow.Author.Tests.{lt-ltb, le-ltb}
 use Rattle.script_fields.proofs.read_last.Goals as goal
 

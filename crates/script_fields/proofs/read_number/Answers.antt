@@ -1,10 +1,7 @@
 -- `script_fields::read_number`: the loop keeps that the value so far and the digits that are left make the whole number, and end where it ends.
 use mathlib.Core.Path.{sym}
-use Prim.Native.Nat.{◌-◌}
 use native.Mathlib.Omega.{arith}
-use borrow.Author.Rules.{rules}
-use lib.ListN.{length}
-use Rattle.script_fields.proofs.Reading.{Read, Digit, digit, read_none, eleventh, grows_too_large, read_one, read_nothing, read_all}
+use Rattle.script_fields.proofs.Reading.{Digit, digit, read_none, eleventh, grows_too_large, read_one, read_nothing, read_all}
 use Rattle.script_fields.proofs.read_number.Goals as goal
 
 pub loop-start-init : goal.loop-start-init

@@ -1,9 +1,6 @@
-use mathlib.Core.Path.{sym}
 use Prim.Native.Nat.{◌-◌}
-use native.Mathlib.Omega.{arith}
-use borrow.Author.Rules.{rules}
 use lib.ListN.{length}
-use Rattle.script_fields.proofs.Reading.{Read, Digit, digit, read_none, eleventh, grows_too_large, read_one, read_nothing, read_all}
+use Rattle.script_fields.proofs.Reading.{Read}
 use Rattle.script_fields.proofs.read_number.Given as goal
 
 abbrev pub invariant-loop-start : goal.invariant-loop-start

@@ -3,7 +3,6 @@ use mathlib.Core.Path.{◌≡◌, refl, sym, ◌∙◌}
 use mathlib.Core.List.{◌∷◌}
 use Prim.Native.Nat.{ℕ}
 use lib.ListN.{get_or, drop}
-use borrow.Author.Rules.{rules}
 use Rattle.script_lines.specs.Lines.{line_of}
 use Rattle.script_lines.proofs.Letters.{empty, by_letter, no_letter}
 use Rattle.script_lines.proofs.read_line.Goals as goal

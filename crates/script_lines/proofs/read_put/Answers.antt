@@ -1,9 +1,6 @@
 -- `script_lines::read_put`: with each number read, those that are left make the same line.
-use mathlib.Core.List.{List}
-use Prim.Native.Nat.{ℕ}
-use borrow.Author.Rules.{rules}
 use Rattle.script_lines.specs.declared.Command.TheVariants.{Put}
-use Rattle.script_lines.proofs.Fields.{Rest, none_read, one_read, none_there, all_read, no_last}
+use Rattle.script_lines.proofs.Fields.{none_read, one_read, none_there, all_read, no_last}
 use Rattle.script_lines.proofs.read_put.Goals as goal
 
 pub returns-in_default : goal.returns-in_default

@@ -1,9 +1,6 @@
 -- `script_lines::read_tick`: the line is its one number, which is the last.
-use mathlib.Core.List.{List}
-use Prim.Native.Nat.{ℕ}
-use borrow.Author.Rules.{rules}
 use Rattle.script_lines.specs.declared.Command.TheVariants.{Tick}
-use Rattle.script_lines.proofs.Fields.{Rest, none_read, all_read, no_last}
+use Rattle.script_lines.proofs.Fields.{none_read, all_read, no_last}
 use Rattle.script_lines.proofs.read_tick.Goals as goal
 
 pub returns-in_default : goal.returns-in_default

@@ -1,6 +1,6 @@
 -- `script_prints::digit_count`: the loop keeps that the digits counted, and those of the rest before its last, are those of the number.
 use native.Mathlib.Omega.{arith}
-use Rattle.script_prints.proofs.Loops.{Counting, count_first, count_more, count_all}
+use Rattle.script_prints.proofs.Loops.{count_first, count_more, count_all}
 use Rattle.script_prints.proofs.digit_count.Goals as goal
 
 pub loop-rest-init : goal.loop-rest-init

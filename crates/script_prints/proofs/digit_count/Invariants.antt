@@ -1,5 +1,4 @@
-use native.Mathlib.Omega.{arith}
-use Rattle.script_prints.proofs.Loops.{Counting, count_first, count_more, count_all}
+use Rattle.script_prints.proofs.Loops.{Counting}
 use Rattle.script_prints.proofs.digit_count.Given as goal
 
 abbrev pub invariant-loop-rest : goal.invariant-loop-rest

@@ -1,6 +1,6 @@
 -- `script_prints::print_digits`: the loop keeps that with the digits of the rest printed before the position, the text is whole.
 use native.Mathlib.Omega.{arith}
-use Rattle.script_prints.proofs.Loops.{Printing, print_none, print_one, print_all}
+use Rattle.script_prints.proofs.Loops.{print_none, print_one, print_all}
 use Rattle.script_prints.proofs.print_digits.Goals as goal
 
 pub loop-at-init : goal.loop-at-init

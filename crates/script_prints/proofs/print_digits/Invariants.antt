@@ -1,5 +1,4 @@
-use native.Mathlib.Omega.{arith}
-use Rattle.script_prints.proofs.Loops.{Printing, print_none, print_one, print_all}
+use Rattle.script_prints.proofs.Loops.{Printing}
 use Rattle.script_prints.proofs.print_digits.Given as goal
 
 abbrev pub invariant-loop-at : goal.invariant-loop-at

@@ -3,7 +3,6 @@ use mathlib.Core.List.{[], ◌∷◌}
 use Prim.Native.Nat.{◌≤◌}
 use lib.ListN.{length}
 use native.Mathlib.Omega.{arith}
-use borrow.Author.Rules.{rules}
 use Rattle.script_prints.specs.Texts.{decimal_text}
 use Rattle.script_prints.proofs.Digits.{length_decimal}
 use Rattle.script_prints.proofs.Overwrites.{printed_byte, printed_append}

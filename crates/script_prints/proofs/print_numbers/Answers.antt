@@ -1,6 +1,5 @@
 -- `script_prints::print_numbers`: the last three numbers are printed alike, and of four the first stands before them.
 use native.Mathlib.Omega.{arith}
-use borrow.Author.Rules.{rules}
 use Rattle.script_prints.specs.Texts.{field_text, numbers_text}
 use Rattle.script_prints.proofs.Digits.{length_field}
 use Rattle.script_prints.proofs.Overwrites.{printed_append}

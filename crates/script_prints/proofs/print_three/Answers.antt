@@ -1,7 +1,6 @@
 -- `script_prints::print_three`: three fields, each printed where the one before it ends, are the line.
 use mathlib.Core.List.{◌++◌}
 use native.Mathlib.Omega.{arith}
-use borrow.Author.Rules.{rules}
 use Rattle.script_prints.specs.Texts.{field_text, numbers_text}
 use Rattle.script_prints.proofs.Digits.{length_field}
 use Rattle.script_prints.proofs.Overwrites.{printed_append}

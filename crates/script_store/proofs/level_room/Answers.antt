@@ -1,5 +1,4 @@
 -- `script_store::level_room`: above L = 6, where every making is refused, all the words that there are; else the level table of such a store.
-use borrow.Author.Rules.{rules}
 use borrow.Author.Tests.{lt-ltb, le-ltb}
 use Rattle.script_store.proofs.level_room.Goals as goal
 

@@ -1,5 +1,4 @@
 -- `script_store::looked_up`: each of a lookup's answers has its four numbers.
-use borrow.Author.Rules.{rules}
 use Rattle.script_store.proofs.looked_up.Goals as goal
 
 pub returns-in-Refused : goal.returns-in-Refused

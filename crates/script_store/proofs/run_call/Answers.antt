@@ -1,5 +1,4 @@
 -- `script_store::run_call`: the call is lent the words of the store alone, and what it leaves of them stands before the rest of the memory.
-use borrow.Author.Rules.{rules}
 use Rattle.call_op.specs.Ops.{op_of}
 use Rattle.script_store.proofs.Parts.{lent_length, entry_part, level_part}
 use Rattle.script_store.proofs.Turns.{done}

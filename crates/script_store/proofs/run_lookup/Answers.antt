@@ -1,5 +1,4 @@
 -- `script_store::run_lookup`: the lookup reads the words of the store alone, and its answer's numbers are printed.
-use borrow.Author.Rules.{rules}
 use Rattle.script_store.proofs.Parts.{lent_length, entry_part, level_part}
 use Rattle.script_store.proofs.Turns.{found}
 use Rattle.script_store.proofs.run_lookup.Goals as goal

@@ -1,7 +1,5 @@
 -- `script_store::run_make`: the making is lent as many words as the store that it asks for has, and the store is that one only where it is accepted.
 use mathlib.Core.Path.{ap, ◌∙◌}
-use borrow.Author.Rules.{rules}
-use Rattle.settings.specs.declared.Settings.{Settings}
 use Rattle.script_store.specs.Coded.{stepped}
 use Rattle.script_store.proofs.Parts.{lent_length, make_entry_part, make_level_part}
 use Rattle.script_store.proofs.Makes.{too_many, make_refused, make_accepted}

@@ -1,12 +1,9 @@
 -- `script_stream::feed`: the loop keeps that the bytes that are left lead from where the script stands to where the block leads.
-use mathlib.Core.Path.{◌≡◌, refl}
-use Prim.Native.Nat.{◌-◌}
+use mathlib.Core.Path.{refl}
 use native.Mathlib.Omega.{arith}
 use borrow.Author.Rules.{rules}
-use lib.ListN.{length}
-use Rattle.script_stream.specs.Blocks.{fed}
 use Rattle.script_buffer.specs.Room.{standing}
-use Rattle.script_stream.proofs.Steps.{Between, feeds_one, feeds_all}
+use Rattle.script_stream.proofs.Steps.{feeds_one, feeds_all}
 use Rattle.script_stream.proofs.feed.Goals as goal
 
 pub loop-i-init : goal.loop-i-init

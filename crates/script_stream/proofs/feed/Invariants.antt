@@ -1,11 +1,9 @@
-use mathlib.Core.Path.{◌≡◌, refl}
+use mathlib.Core.Path.{◌≡◌}
 use Prim.Native.Nat.{◌-◌}
-use native.Mathlib.Omega.{arith}
-use borrow.Author.Rules.{rules}
 use lib.ListN.{length}
 use Rattle.script_stream.specs.Blocks.{fed}
 use Rattle.script_buffer.specs.Room.{standing}
-use Rattle.script_stream.proofs.Steps.{Between, feeds_one, feeds_all}
+use Rattle.script_stream.proofs.Steps.{Between}
 use Rattle.script_stream.proofs.feed.Given as goal
 
 abbrev pub invariant-loop-i : goal.invariant-loop-i

@@ -1,5 +1,4 @@
 -- `script_stream::finish`: with no byte of a line kept nothing is left to do, and with some the line ends as if a line feed had come.
-use borrow.Author.Rules.{rules}
 use native.Mathlib.Omega.{arith}
 use Rattle.script_stream.proofs.Steps.{finishes_none, finishes_line}
 use Rattle.script_stream.proofs.finish.Goals as goal

@@ -1,6 +1,5 @@
 -- `deepest_of`: every word of the table fits a `usize`.
 use native.Mathlib.Omega.{arith}
-use borrow.Author.Rules.{rules}
 use Rattle.table_levels.proofs.deepest_of.Goals as goal
 
 pub overflow_cast-result : goal.overflow_cast-result

@@ -1,5 +1,5 @@
 -- `held_all`: the loop keeps that the sum so far, with what the levels from i on hold, is what all hold.
-use Prim.Native.Nat.{ℕ, ◌+◌, ◌-◌, ◌≤◌}
+use Prim.Native.Nat.{ℕ, ◌+◌}
 use native.Mathlib.Omega.{arith}
 use Rattle.model.specs.declared.Tally.{Tally}
 use Rattle.model.specs.Records.{State}

@@ -1,9 +1,8 @@
-use Prim.Native.Nat.{ℕ, ◌+◌, ◌-◌, ◌≤◌}
-use native.Mathlib.Omega.{arith}
+use Prim.Native.Nat.{ℕ, ◌-◌, ◌≤◌}
 use Rattle.model.specs.declared.Tally.{Tally}
 use Rattle.model.specs.Records.{State}
 use Rattle.table_levels.specs.Levels.{RowsAre}
-use Rattle.table_levels.proofs.Adds.{Adds, adds_nothing, adds_one, adds_all, rows_length, rows_deepest}
+use Rattle.table_levels.proofs.Adds.{Adds}
 use Rattle.table_levels.proofs.held_all.Given as goal
 
 abbrev pub invariant-loop-i : goal.invariant-loop-i

@@ -2,7 +2,6 @@
 use native.Mathlib.Omega.{arith}
 use Prim.Native.Nat.{◌+◌, ◌*◌}
 use Rattle.tables.specs.Rows.{row_size}
-use borrow.Author.Rules.{rules}
 use Rattle.table_levels.proofs.level_at.Goals as goal
 
 pub overflow_cast-result : goal.overflow_cast-result

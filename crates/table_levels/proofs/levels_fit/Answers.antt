@@ -1,8 +1,6 @@
 -- `levels_fit`: a table without a first row is too short, and the answer of the settings tells whether the row is allowed.
-use mathlib.Core.Path.{sym, ap, ◌∙◌}
-use native.Mathlib.Omega.{arith}
+use mathlib.Core.Path.{sym, ◌∙◌}
 use Rattle.table_levels.proofs.Fits.{table_short, table_refused, table_accepted}
-use borrow.Author.Rules.{rules}
 use Rattle.table_levels.proofs.levels_fit.Goals as goal
 
 pub returns-then-l-lt-WORDS : goal.returns-then-l-lt-WORDS

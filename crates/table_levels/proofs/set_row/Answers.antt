@@ -3,7 +3,6 @@ use mathlib.Core.Path.{refl}
 use native.Mathlib.Omega.{arith}
 use lib.ListN.{length-set}
 use Rattle.tables.specs.Rows.{set_row}
-use borrow.Author.Rules.{rules}
 use Rattle.table_levels.proofs.set_row.Goals as goal
 
 pub bounds-l-row-2 : goal.bounds-l-row-2

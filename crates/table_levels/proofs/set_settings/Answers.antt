@@ -3,7 +3,6 @@ use mathlib.Core.Path.{refl}
 use native.Mathlib.Omega.{arith}
 use lib.ListN.{length-set}
 use Rattle.tables.specs.Rows.{set_settings}
-use borrow.Author.Rules.{rules}
 use Rattle.table_levels.proofs.set_settings.Goals as goal
 
 pub bounds-l-1 : goal.bounds-l-1

@@ -1,5 +1,4 @@
 -- `table_slots::entries_fit`: the tests of the definition, of the slots that were counted.
-use borrow.Author.Rules.{rules}
 use Rattle.tables.specs.Sound.{entries_fit}
 use Rattle.table_slots.proofs.entries_fit.Goals as goal
 

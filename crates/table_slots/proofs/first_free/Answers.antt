@@ -1,6 +1,5 @@
 -- `first_free`: every word of the table fits a `usize`.
 use native.Mathlib.Omega.{arith}
-use borrow.Author.Rules.{rules}
 use Rattle.table_slots.proofs.first_free.Goals as goal
 
 pub overflow_cast-result : goal.overflow_cast-result

@@ -1,5 +1,4 @@
 -- `is_top_blank`: the two tests, of what was read.
-use borrow.Author.Rules.{rules}
 use Rattle.table_slots.proofs.is_top_blank.Goals as goal
 
 pub returns : goal.returns

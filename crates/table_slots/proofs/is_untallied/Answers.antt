@@ -1,5 +1,4 @@
 -- `is_untallied`: the two tests, of the count and the price that were read.
-use borrow.Author.Rules.{rules}
 use Rattle.table_slots.proofs.is_untallied.Goals as goal
 
 pub returns : goal.returns

@@ -1,6 +1,5 @@
 -- `set_clock`: one word written is slot 0 with another clock.
 use Rattle.tables.proofs.Slots.{clock_written}
-use borrow.Author.Rules.{rules}
 use Rattle.table_slots.proofs.set_clock.Goals as goal
 
 pub returns : goal.returns

@@ -2,7 +2,6 @@
 use native.Mathlib.Omega.{arith}
 use lib.ListN.{length-set}
 use Rattle.tables.proofs.Slots.{date_written}
-use borrow.Author.Rules.{rules}
 use Rattle.table_slots.proofs.set_date.Goals as goal
 
 pub bounds-e-slot-2 : goal.bounds-e-slot-2

@@ -1,6 +1,5 @@
 -- `set_first_free`: one word written is slot 0 with another link.
 use Rattle.tables.proofs.Slots.{link_written}
-use borrow.Author.Rules.{rules}
 use Rattle.table_slots.proofs.set_first_free.Goals as goal
 
 pub returns : goal.returns

@@ -1,6 +1,5 @@
 -- `set_link`: one word written is a slot with another link.
 use Rattle.tables.proofs.Slots.{link_written}
-use borrow.Author.Rules.{rules}
 use Rattle.table_slots.proofs.set_link.Goals as goal
 
 pub returns : goal.returns

@@ -1,5 +1,4 @@
 -- `set_record`: the two halves of each word are stacked as `link-to` and `span-from` say.
-use borrow.Author.Rules.{rules}
 use mathlib.Core.Path.{◌≡◌, ap, ◌∙◌}
 use Prim.Native.Nat.{ℕ, ◌*◌}
 use native.Mathlib.Omega.{arith}

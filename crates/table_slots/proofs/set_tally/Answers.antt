@@ -2,7 +2,6 @@
 use native.Mathlib.Omega.{arith}
 use lib.ListN.{length-set}
 use Rattle.tables.proofs.Slots.{tally_written}
-use borrow.Author.Rules.{rules}
 use Rattle.table_slots.proofs.set_tally.Goals as goal
 
 pub bounds-e-slot-2 : goal.bounds-e-slot-2

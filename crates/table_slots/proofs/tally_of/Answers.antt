@@ -1,5 +1,4 @@
 -- `tally_of`: the two words that it reads are the tally.
-use borrow.Author.Rules.{rules}
 use Rattle.table_slots.proofs.tally_of.Goals as goal
 
 pub returns : goal.returns

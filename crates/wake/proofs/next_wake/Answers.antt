@@ -1,8 +1,7 @@
 -- The loop keeps: what is carried is that of its level, and the levels from it on lead from the clock found so far to the smallest of all.
-use borrow.Author.Rules.{rules}
 use mathlib.Core.Path.{◌≡◌, refl, sym, ap, ◌∙◌}
 use mathlib.Core.Bool.{true}
-use Prim.Native.Nat.{◌+◌, ◌-◌, ◌≤◌}
+use Prim.Native.Nat.{◌+◌}
 use native.Mathlib.Omega.{arith}
 use Rattle.settings.specs.declared.Settings.{Settings}
 use Rattle.settings.specs.declared.LevelSettings.{LevelSettings}
@@ -11,10 +10,9 @@ use Rattle.settings.specs.Carried.{at_level, Carried}
 use Rattle.settings.proofs.Allowed.{allowed_bounds}
 use Rattle.settings.proofs.Carried.{carried_at}
 use Rattle.model_wake.specs.Wake.{wake_level, sooner, next_wake}
-use Rattle.tables.specs.Rows.{settings_of}
 use Rattle.tables.proofs.Lengths.{table_facts}
 use Rattle.wake.specs.Wake.{owed_of}
-use Rattle.wake.proofs.Turns.{from, from_first, from_end, from_next}
+use Rattle.wake.proofs.Turns.{from_first, from_end, from_next}
 use Rattle.wake.proofs.next_wake.Goals as goal
 
 pub settings_of-settings-requires : goal.settings_of-settings-requires

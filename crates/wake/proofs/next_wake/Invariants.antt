@@ -1,19 +1,8 @@
-use borrow.Author.Rules.{rules}
-use mathlib.Core.Path.{◌≡◌, refl, sym, ap, ◌∙◌}
-use mathlib.Core.Bool.{true}
-use Prim.Native.Nat.{◌+◌, ◌-◌, ◌≤◌}
-use native.Mathlib.Omega.{arith}
-use Rattle.settings.specs.declared.Settings.{Settings}
-use Rattle.settings.specs.declared.LevelSettings.{LevelSettings}
-use Rattle.settings.specs.Limits.{allowed}
-use Rattle.settings.specs.Carried.{at_level, Carried}
-use Rattle.settings.proofs.Allowed.{allowed_bounds}
-use Rattle.settings.proofs.Carried.{carried_at}
-use Rattle.model_wake.specs.Wake.{wake_level, sooner, next_wake}
-use Rattle.tables.specs.Rows.{settings_of}
-use Rattle.tables.proofs.Lengths.{table_facts}
+use mathlib.Core.Path.{◌≡◌}
+use Prim.Native.Nat.{◌-◌, ◌≤◌}
+use Rattle.settings.specs.Carried.{at_level}
 use Rattle.wake.specs.Wake.{owed_of}
-use Rattle.wake.proofs.Turns.{from, from_first, from_end, from_next}
+use Rattle.wake.proofs.Turns.{from}
 use Rattle.wake.proofs.next_wake.Given as goal
 
 abbrev pub invariant-loop-at : goal.invariant-loop-at

@@ -1,5 +1,4 @@
 -- Where one has no clock it is the other; else the test tells which is smaller.
-use borrow.Author.Rules.{rules}
 use Rattle.wake.proofs.Turns.{sooner_second, sooner_first, sooner_alone}
 use Rattle.wake.proofs.sooner.Goals as goal
 

@@ -1,6 +1,5 @@
 -- A refusal is answered as it is; on sound tables the smallest clock is.
 use mathlib.Core.Path.{◌≡◌, sym, ap, ◌∙◌}
-use borrow.Author.Rules.{rules}
 use Rattle.wake.specs.declared.Answer.{Answer}
 use Rattle.wake.specs.Wake.{answered, wake_tables}
 use Rattle.wake.proofs.Answers.{refused, told, sound_fits}

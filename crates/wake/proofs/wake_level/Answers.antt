@@ -1,8 +1,6 @@
 -- The level's row tells what it owes; owed and limit together have room in 64 bits.
 use mathlib.Core.Path.{◌≡◌, sym, ap, ◌∙◌}
-use borrow.Author.Rules.{rules}
 use native.Mathlib.Omega.{arith}
-use Rattle.settings.specs.Limits.{limit}
 use Rattle.table_levels.specs.declared.Level.{Level}
 use Rattle.wake.specs.Wake.{owed_of}
 use Rattle.wake.proofs.Turns.{level_never, level_at_clock, clock_most}

@@ -1,5 +1,4 @@
 -- On level L a put changes its docket's tally and stamp, a delete wipes what it covers.
-use borrow.Author.Rules.{rules}
 use native.Mathlib.Omega.{arith}
 use Rattle.tables.specs.Rows.{InRows}
 use Rattle.merge_levels.proofs.Store.{laid_length, laid_deepest}

@@ -1,5 +1,4 @@
 -- The docket's point is found, and its tally and stamp are changed; a docket without a point changes nothing.
-use borrow.Author.Rules.{rules}
 use Rattle.write_act.proofs.Overwrites.{points_chain, search_asked, kept, slot_in_table, changed}
 use Rattle.write_act.proofs.overwrite.Goals as goal
 

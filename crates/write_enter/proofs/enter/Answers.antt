@@ -1,6 +1,5 @@
 -- A range and a point each enter the buffer, and what the code returns of the buffer becomes its row.
 use native.Mathlib.Omega.{arith}
-use borrow.Author.Rules.{rules}
 use Rattle.tables.specs.Rows.{InRows}
 use Rattle.merge_levels.proofs.Store.{laid_length}
 use Rattle.write_enter.proofs.LaidEntries.{entry, entry_asked, entering_asked, row_fits, entry_ends}

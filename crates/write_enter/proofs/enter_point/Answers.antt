@@ -1,5 +1,4 @@
 -- The docket's point is sieved out, a free slot is taken, and its cell is put among the points.
-use borrow.Author.Rules.{rules}
 use native.Mathlib.Omega.{arith}
 use mathlib.Core.List.{List, ◌∷◌, map}
 use Rattle.tables.specs.Placed.{Cell, point_cell, range_cell}

@@ -1,5 +1,4 @@
 -- A put leaves what is owed as it is; a delete makes it the earlier of that and its clock.
-use borrow.Author.Rules.{rules}
 use borrow.Author.Tests.{eq-eqb, ne_eqb}
 use Rattle.write_enter.proofs.owed_with.Goals as goal
 

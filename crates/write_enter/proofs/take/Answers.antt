@@ -1,9 +1,8 @@
 -- The first free slot leaves the free chain and takes the record.
-use borrow.Author.Rules.{rules}
 use mathlib.Core.Path.{ap}
 use native.Mathlib.Omega.{arith}
 use lib.ListN.{length}
-use Rattle.tables.specs.Slots.{InTable, slot_at, first_free, with_link}
+use Rattle.tables.specs.Slots.{InTable, slot_at, with_link}
 use Rattle.tables.proofs.Slots.{length-set_slot}
 use Rattle.write_enter.proofs.Takes.{first_slot, first_in_table, take_ends}
 use Rattle.write_enter.proofs.take.Goals as goal

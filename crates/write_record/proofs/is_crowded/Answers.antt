@@ -1,5 +1,4 @@
 -- The first free slot and the first cells that would go say whether there is room.
-use borrow.Author.Rules.{rules}
 use mathlib.Core.Path.{◌≡◌, sym, ap, ◌∙◌}
 use native.Mathlib.Omega.{arith}
 use Rattle.lists.specs.Lists.{select}

@@ -1,6 +1,5 @@
 -- `settings::LevelSettings::capacity`: the buffer times the power carried.
 use native.Mathlib.Omega.{arith}
-use borrow.Author.Rules.{rules}
 use Rattle.settings.proofs.Carried.{carried_capacity, carried_capacity_fits}
 use Rattle.settings.proofs.LevelSettings.capacity.Goals as goal
 

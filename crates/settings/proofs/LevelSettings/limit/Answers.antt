@@ -1,6 +1,5 @@
 -- `settings::LevelSettings::limit`: the product fits 64 bits, and the divisor carried is not 0.
 use native.Mathlib.Omega.{arith}
-use borrow.Author.Rules.{rules}
 use Rattle.settings.proofs.Carried.{carried_limit, carried_below_fits, carried_product_fits, carried_divides}
 use Rattle.settings.proofs.LevelSettings.limit.Goals as goal
 

@@ -1,6 +1,5 @@
 -- `settings::LevelSettings::next`: the power below, multiplied once, makes those of the next level.
 use native.Mathlib.Omega.{arith}
-use borrow.Author.Rules.{rules}
 use Rattle.settings.proofs.Carried.{carried-next, carried_next_fits}
 use Rattle.settings.proofs.LevelSettings.next.Goals as goal
 

@@ -1,6 +1,5 @@
 -- `settings::Settings::at_level`: both numbers are powers of levels; multiplied once, that of the level is the next one's, and that of L is above 0.
 use native.Mathlib.Omega.{arith}
-use borrow.Author.Rules.{rules}
 use Rattle.settings.proofs.Allowed.{Allowed, allowed_bounds}
 use Rattle.settings.proofs.Powers.{power_one, power_fits, once_fits}
 use Rattle.settings.proofs.Carried.{at_level_powers}

@@ -1,7 +1,6 @@
 -- `settings::Settings::capacity`: the one test is `level-from 1`, and a level's capacity is taken from what is carried to it.
 use mathlib.Core.Path.{◌≡◌, sym, ap, ◌∙◌}
 use mathlib.Core.Bool.{true}
-use borrow.Author.Rules.{rules}
 use Rattle.lists.proofs.Branches.{fails, holds}
 use Rattle.settings.specs.declared.LevelSettings.{LevelSettings}
 use Rattle.settings.specs.declared.Bound.TheVariants.{Is}

@@ -1,7 +1,6 @@
 -- `settings::Settings::is_allowed`: each test of the code is a part of `allowed`, in its order.
 use mathlib.Core.Path.{◌≡◌}
 use mathlib.Core.Bool.{true}
-use borrow.Author.Rules.{rules}
 use Rattle.settings.specs.Limits.{within, allowed}
 use Rattle.lists.proofs.Branches.{fails, holds}
 use Rattle.settings.proofs.Settings.is_allowed.Goals as goal

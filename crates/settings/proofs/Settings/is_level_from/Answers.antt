@@ -1,6 +1,5 @@
 -- `settings::Settings::is_level_from`: of allowed settings L is at least 2, so level L−1 can be computed and compared with.
 use native.Mathlib.Omega.{arith}
-use borrow.Author.Rules.{rules}
 use Rattle.lists.proofs.Branches.{fails, holds}
 use Rattle.settings.proofs.Allowed.{allowed_bounds}
 use Rattle.settings.proofs.Settings.is_level_from.Goals as goal

@@ -1,7 +1,6 @@
 -- `settings::Settings::limit`: the one test is `level-from 0`, and a level's limit is taken from what is carried to it.
 use mathlib.Core.Path.{◌≡◌, sym, ap, ◌∙◌}
 use mathlib.Core.Bool.{true}
-use borrow.Author.Rules.{rules}
 use Rattle.lists.proofs.Branches.{fails, holds}
 use Rattle.settings.specs.declared.LevelSettings.{LevelSettings}
 use Rattle.settings.specs.declared.Bound.TheVariants.{Is}

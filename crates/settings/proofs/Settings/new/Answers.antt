@@ -1,6 +1,5 @@
 -- `settings::Settings::new`: the one test is `allowed`, and what it passes is answered as it came.
 use mathlib.Core.Path.{sym}
-use borrow.Author.Rules.{rules}
 use Rattle.lists.proofs.Branches.{fails, holds}
 use Rattle.settings.proofs.Answers.{checked_accepted, checked_refused}
 use Rattle.settings.proofs.Settings.new.Goals as goal
