@@ -159,7 +159,7 @@ module _ (e l : List ℕ) (lo hi : ℕ) (rows : List CountRow) where
   pub scan_counts_refused_leaves : docket_refusal e l lo hi ≢ 0 → scan_counts_tables e l lo hi rows ≡ unfilled (docket_refusal e l lo hi) rows
   scan_counts_refused_leaves = scans.counts_refused_leaves e l lo hi rows
 
--- What only reads, a lookup, a scan or when to wake, "may stand anywhere between": on tables of any content, words and answers of the timed calls are those of the list without them.
+-- Lookups and scans "may stand anywhere between": on tables of any content, words and answers of the timed calls are those of the list without them.
 module _ (w : Tables) (es : List Event) where
   pub events_tables : run_events w es ≡ run_tables w (calls_of es)
   events_tables = events.tables_without w es

@@ -5,7 +5,7 @@ use Prim.Native.Nat.{ℕ, zero, suc, ◌<◌}
 use native.Mathlib.Omega.{arith}
 use lib.ListN.{length, get_or, take}
 use Rattle.call_tables.specs.Calls.{Tables, call_tables, run_tables, answers_tables}
-use Rattle.demands.specs.Events.{Event, call, lookup_of, scan_of, lookup_count_of, scan_counts_of, wake_asked, Reply, reply, run_events, replies, calls_of, answers_of}
+use Rattle.demands.specs.Events.{Event, call, lookup_of, scan_of, lookup_count_of, scan_counts_of, Reply, reply, run_events, replies, calls_of, answers_of}
 
 pub tables_without : (w : Tables) (es : List Event) → run_events w es ≡ run_tables w (calls_of es)
 unfolding run_events run_tables calls_of
@@ -15,7 +15,6 @@ tables_without w (lookup_of k ∷ es) = tables_without w es
 tables_without w (scan_of lo hi rows ∷ es) = tables_without w es
 tables_without w (lookup_count_of k ∷ es) = tables_without w es
 tables_without w (scan_counts_of lo hi rows ∷ es) = tables_without w es
-tables_without w (wake_asked ∷ es) = tables_without w es
 
 pub answers_without : (w : Tables) (es : List Event) → answers_of (replies w es) ≡ answers_tables w (calls_of es)
 unfolding replies answers_of answers_tables calls_of
@@ -25,7 +24,6 @@ answers_without w (lookup_of k ∷ es) = answers_without w es
 answers_without w (scan_of lo hi rows ∷ es) = answers_without w es
 answers_without w (lookup_count_of k ∷ es) = answers_without w es
 answers_without w (scan_counts_of lo hi rows ∷ es) = answers_without w es
-answers_without w (wake_asked ∷ es) = answers_without w es
 
 -- The event at a place gives what it gives on the tables after the timed calls before it.
 pub reply_there : (w : Tables) (es : List Event) (i : ℕ) (e : Event) (r : Reply) → i < length es
@@ -38,4 +36,3 @@ reply_there w (lookup_of k ∷ es) (suc i) e r h = reply_there w es i e r (omega
 reply_there w (scan_of lo hi rows ∷ es) (suc i) e r h = reply_there w es i e r (omega arith)
 reply_there w (lookup_count_of k ∷ es) (suc i) e r h = reply_there w es i e r (omega arith)
 reply_there w (scan_counts_of lo hi rows ∷ es) (suc i) e r h = reply_there w es i e r (omega arith)
-reply_there w (wake_asked ∷ es) (suc i) e r h = reply_there w es i e r (omega arith)

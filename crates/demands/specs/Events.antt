@@ -1,4 +1,4 @@
--- Document 01, "The third demand": "Lookups and scans write no word of the tables and may stand anywhere between." The grower's too, and the next due merge's clock.
+-- Document 01, "The third demand": "Lookups and scans write no word of the tables and may stand anywhere between." The grower's too.
 use Rattle.std.specs.Prelude.{List, [], ◌∷◌, ℕ}
 use Rattle.model.specs.declared.Tally.{Tally}
 use Rattle.model.specs.Calls.{Call, Answer}
@@ -6,21 +6,18 @@ use Rattle.lookup.specs.declared.Answer as lookup
 use Rattle.lookup.specs.declared.CountAnswer.{CountAnswer}
 use Rattle.lookup.specs.Lookup.{lookup_tables}
 use Rattle.lookup.specs.Counts.{lookup_counts}
-use Rattle.wake.specs.declared.Answer as wake
-use Rattle.wake.specs.Wake.{wake_tables}
 use Rattle.scan.specs.declared.Row.{Row}
 use Rattle.scan.specs.declared.CountRow.{CountRow}
 use Rattle.scan.specs.Scan.{Outcome, scan_tables, scan_counts_tables}
 use Rattle.call_tables.specs.Calls.{Tables, call_tables}
 
--- A timed call, a lookup of a docket, a scan of lo to hi into the caller's rows, the grower's lookup and scan; and when to wake.
+-- A timed call, a lookup of a docket, a scan of lo to hi into the caller's rows; and the grower's lookup and scan.
 pub data Event : Type 0 where
   call : Call Tally → Event
   lookup_of : ℕ → Event
   scan_of : ℕ → ℕ → List Row → Event
   lookup_count_of : ℕ → Event
   scan_counts_of : ℕ → ℕ → List CountRow → Event
-  wake_asked : Event
 
 -- What each gives.
 pub data Reply : Type 0 where
@@ -29,7 +26,6 @@ pub data Reply : Type 0 where
   scan_gives : Outcome Row → Reply
   lookup_count_gives : CountAnswer → Reply
   scan_counts_gives : Outcome CountRow → Reply
-  wake_gives : wake.Answer → Reply
 
 abbrev pub reply : Tables → Event → Reply
 reply w (call c) = call_gives (call_tables w c).answer
@@ -37,16 +33,14 @@ reply w (lookup_of k) = lookup_gives (lookup_tables w.entries w.levels k)
 reply w (scan_of lo hi rows) = scan_gives (scan_tables w.entries w.levels lo hi rows)
 reply w (lookup_count_of k) = lookup_count_gives (lookup_counts w.entries w.levels k)
 reply w (scan_counts_of lo hi rows) = scan_counts_gives (scan_counts_tables w.entries w.levels lo hi rows)
-reply w wake_asked = wake_gives (wake_tables w.entries w.levels)
 
--- The tables that it leaves: all but a timed call are lent them to read.
+-- The tables that it leaves: a lookup and a scan are lent them to read.
 abbrev pub leaves : Tables → Event → Tables
 leaves w (call c) = (call_tables w c).tables
 leaves w (lookup_of k) = w
 leaves w (scan_of lo hi rows) = w
 leaves w (lookup_count_of k) = w
 leaves w (scan_counts_of lo hi rows) = w
-leaves w wake_asked = w
 
 -- A list of them: what it leaves, and what each gives.
 unfoldable pub run_events : Tables → List Event → Tables
@@ -57,7 +51,7 @@ unfoldable pub replies : Tables → List Event → List Reply
 replies w [] = []
 replies w (e ∷ es) = reply w e ∷ replies (leaves w e) es
 
--- The timed calls of the list alone, and their answers.
+-- The list without lookups and scans, and the answers without theirs.
 unfoldable pub calls_of : List Event → List (Call Tally)
 calls_of [] = []
 calls_of (call c ∷ es) = c ∷ calls_of es
@@ -65,7 +59,6 @@ calls_of (lookup_of k ∷ es) = calls_of es
 calls_of (scan_of lo hi rows ∷ es) = calls_of es
 calls_of (lookup_count_of k ∷ es) = calls_of es
 calls_of (scan_counts_of lo hi rows ∷ es) = calls_of es
-calls_of (wake_asked ∷ es) = calls_of es
 
 unfoldable pub answers_of : List Reply → List Answer
 answers_of [] = []
@@ -74,4 +67,3 @@ answers_of (lookup_gives r ∷ rs) = answers_of rs
 answers_of (scan_gives r ∷ rs) = answers_of rs
 answers_of (lookup_count_gives r ∷ rs) = answers_of rs
 answers_of (scan_counts_gives r ∷ rs) = answers_of rs
-answers_of (wake_gives r ∷ rs) = answers_of rs

@@ -3,7 +3,7 @@
 
 ghost use Rattle.std.specs.Prelude.{◌≡◌, ◌<◌, ◌≤◌, leb};
 ghost use Rattle.tables.specs.Slots.{entry_length, slots_of, InTable, slot_at, set_slot, link_to, span_from, next_of, kind_of, span_of, lo_of, hi_of, tally_of, count_of};
-ghost use Rattle.tables.specs.Slots.{price_of, date_of, stamp_of, free_slot, top_slot, first_free, clock_of, with_link, with_tally, with_date, set_clock};
+ghost use Rattle.tables.specs.Slots.{price_of, date_of, stamp_of, free_slot, top_slot, first_free, clock_of, with_link, with_clock, with_tally, with_date};
 ghost use Rattle.tables.specs.Sound.{is_untallied, order_key, top_blank, entries_fit};
 
 use model::Tally;
@@ -211,7 +211,7 @@ pub fn set_first_free(e: &mut [u32], first: usize)
 
 pub fn set_clock(e: &mut [u32], clock: u32)
     requires { InTable e.old 0 }
-    ensures { e.new ≡ set_clock e.old clock }
+    ensures { e.new ≡ set_slot e.old 0 (with_clock clock (slot_at e.old 0)) }
 {
     e[1] = clock;
 }
