@@ -41,7 +41,7 @@ pub struct Scanned {
     pub next: u32,
 }
 
-// Fills the rows with the live dockets from lo to hi, ascending. It decides nothing, since its proof is by hand: each row comes from a step that is covered.
+// Fills the rows with the live dockets from lo to hi, ascending: each row comes from a step of its own.
 pub fn scan(entries: &[u32], levels: &[u32], lo: u32, hi: u32, rows: &mut [Row]) -> Scanned
     ensures { record { answer = result; rows = rows.new } ≡ scan_tables entries.now levels.now lo hi rows.old }
 {
@@ -56,7 +56,7 @@ pub fn scan(entries: &[u32], levels: &[u32], lo: u32, hi: u32, rows: &mut [Row])
     close(m, i, refusal)
 }
 
-// The same over the grower's rows: the code differs in the rows alone, and so does the proof.
+// The same over the grower's rows: the code differs in the rows alone.
 pub fn scan_counts(
     entries: &[u32],
     levels: &[u32],
