@@ -1,4 +1,4 @@
-"""The proved library, called from Python: `scripts/library` puts it together from the archive that `rt staticlib` writes."""
+"""The proved library, called from Python: `scripts/library` puts it together from the archive that `rt lib` writes."""
 import ctypes
 import pathlib
 
