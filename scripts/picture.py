@@ -36,8 +36,9 @@ def sections(text):
         if line.startswith("# "):
             found.append(Section(line[2:]))
         elif line:
+            # A kind, as staticlib, stands behind the crate's name.
             crate, _, uses = line.partition(":")
-            found[-1].crates[crate] = uses.split()
+            found[-1].crates[crate.split()[0]] = uses.split()
     return found
 
 

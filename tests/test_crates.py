@@ -9,11 +9,9 @@ CRATES = ROOT / "crates"
 sys.path.insert(0, str(ROOT / "scripts"))
 import picture  # noqa: E402
 
-# Crates of the toolchain, which crates.txt names last.
-TOOLCHAIN = {"io", "libc", "os", "bytes"}
 COMMENT = re.compile(r"(?://|--).*$", re.M)
-# `Rattle·crate.specs.File` in definitions, proofs and contracts, `crate::name` in code.
-IN_PROOFS, IN_CODE = re.compile(r"Rattle·(\w+)(?=[.·])"), re.compile(r"(?<![\w.:·])(\w+)(?=::)")
+# `Rattle.crate.specs.File` in definitions, proofs and contracts, `crate::name` in code. The toolchain's `std` is never listed, and nothing else of it is used.
+IN_PROOFS, IN_CODE = re.compile(r"\bRattle\.(\w+)(?=\.)"), re.compile(r"(?<![\w.:])(\w+)(?=::)")
 
 
 def used(crate, known):
@@ -22,7 +20,7 @@ def used(crate, known):
         if path.suffix in (".rt", ".antt") and path.is_file():
             text = COMMENT.sub("", path.read_text())
             found |= set(IN_PROOFS.findall(text)) | (set(IN_CODE.findall(text)) if path.suffix == ".rt" else set())
-    return found & (known | TOOLCHAIN) - {crate}
+    return found & known - {crate}
 
 
 class Crates(unittest.TestCase):
@@ -32,7 +30,7 @@ class Crates(unittest.TestCase):
         self.named = {crate: uses for section in self.sections for crate, uses in section.crates.items()}
 
     def test_every_crate_stands_once(self):
-        lines = [line.partition(":")[0] for line in self.text.split("\n") if line and not line.startswith("#")]
+        lines = [line.partition(":")[0].split()[0] for line in self.text.split("\n") if line and not line.startswith("#")]
         self.assertEqual(sorted(lines), sorted(p.name for p in CRATES.iterdir() if p.is_dir()), "lines of crates.txt and folders of crates/")
 
     def test_sections(self):
@@ -48,10 +46,10 @@ class Crates(unittest.TestCase):
         self.assertEqual(wrong, [], "\n" + "\n".join(wrong))
 
     def test_order(self):
-        """A line names crates above it alone, in the order of the file, the toolchain's last."""
-        order, wrong = [*self.named, *sorted(TOOLCHAIN)], []
+        """A line names crates above it alone, in the order of the file."""
+        order, wrong = list(self.named), []
         for crate, uses in self.named.items():
-            wrong += [f"crates.txt, {crate}: {u} stands below it" for u in uses if order.index(u) >= order.index(crate) and u in self.named]
+            wrong += [f"crates.txt, {crate}: {u} stands below it" for u in uses if order.index(u) >= order.index(crate)]
             if uses != sorted(uses, key=order.index):
                 wrong.append(f"crates.txt, {crate}: not in the order of the file: {' '.join(uses)}")
         self.assertEqual(wrong, [], "\n" + "\n".join(wrong))

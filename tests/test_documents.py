@@ -52,11 +52,14 @@ def missing(crate, folder, file, names):
         return None if place.is_dir() else f"there is no {crate}/{folder}"
     if folder == "must-fail":
         return None if (place / f"{file}.edit").is_file() else f"there is no edit {crate}/{folder}/{file}"
-    path = next((p for p in (place / f"{file}.antt", place / f"{file}.rt", place / file / "Proof.antt") if p.is_file()), None)
-    if path is None:
+    # What is written of a function's proof stands in two files of its folder.
+    names_of = (place / f"{file}.antt", place / f"{file}.rt", place / file / "Answers.antt", place / file / "Invariants.antt")
+    found = [p for p in names_of if p.is_file()]
+    if not found:
         return f"there is no file {crate}/{folder}/{file}"
-    lost = [n for n in re.split(r"[.:]+", names) if n and n not in ("antt", "rt") and n not in defined_in(path)]
-    return f"{path.relative_to(ROOT)} has no {', '.join(lost)}{elsewhere(lost[0])}" if lost else None
+    there = set().union(*map(defined_in, found))
+    lost = [n for n in re.split(r"[.:]+", names) if n and n not in ("antt", "rt") and n not in there]
+    return f"{found[0].relative_to(ROOT)} has no {', '.join(lost)}{elsewhere(lost[0])}" if lost else None
 
 
 def elsewhere(name):
@@ -133,7 +136,7 @@ def definition_lines(file, *without):
 def cited_by_calls(crate):
     """The files of definitions that the contracts of a crate's public functions cite."""
     text = (CRATES / crate / "src" / "lib.rt").read_text()
-    imports = re.findall(r"^ghost use Rattle·(\w+?)(?:·specs\.specs|\.specs)\.(\w+)\.\{([^}]*)\}", text, re.M)
+    imports = [found for found in re.findall(r"^ghost use Rattle\.(\w+)\.specs\.(\w+)\.\{([^}]*)\}", text, re.M) if found[0] != "std"]
     homes = {name.strip(): f"{home}/specs/{file}" for home, file, names in imports for name in names.split(",")}
     contracts = " ".join(re.findall(r"^pub (?:extern \"C\" )?fn .*?^\{", text, re.M | re.S))
     return {home for name, home in homes.items() if re.search(rf"(?<![\w-]){re.escape(name)}(?![\w-])", contracts)}
