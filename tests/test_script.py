@@ -318,8 +318,8 @@ class Output(unittest.TestCase):
             return program.wait(PATIENCE), program.stderr.read()
 
     def test_a_closed_output_ends_the_program(self):
-        self.assertEqual(self.run_closed(restore_signals=True), (-signal.SIGPIPE, b""))
-        # Python ignores SIGPIPE, and so does then the program.
+        # The program's own runtime ignores SIGPIPE, whether or not it was started so.
+        self.assertEqual(self.run_closed(restore_signals=True), (0, b"run_script: the output was cut\n"))
         self.assertEqual(self.run_closed(restore_signals=False), (0, b"run_script: the output was cut\n"))
 
     def test_a_full_output_ends_the_program(self):
