@@ -9,7 +9,8 @@ ROOT = pathlib.Path(__file__).parent.parent
 CRATES = ROOT / "crates"
 DOCS = ROOT / "docs"
 README = ROOT / "README.md"
-PAGES = [README, *sorted(DOCS.glob("*.md"))]
+# But for the record of the port, which names what is gone.
+PAGES = [README, *sorted(page for page in DOCS.glob("*.md") if page.name != "PORT.md")]
 WIDTH = 120
 # The crates of the public calls.
 CALLS = ("make", "check_refusal", "call_any", "call_timed", "lookup", "scan", "guontrem", "script_lines", "script_command", "script_prints")
