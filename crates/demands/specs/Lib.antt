@@ -1,5 +1,5 @@
--- What the demands say of lookups and of the numbers in the tables, lists in which lookups, scans and the next due merge's clock are asked among the timed calls,
--- tables and lists that differ in tallies or in prices alone, and what a controller that sleeps may rely on.
+-- What the demands say of lookups and of the numbers in the tables, lists in which lookups and scans stand among the timed calls, tables and lists that
+-- differ in tallies or in prices alone, and what a controller that sleeps may rely on.
 pub mod Full
 pub mod LastPut
 pub mod Events

@@ -1,4 +1,4 @@
--- What a turn of the program's loop, and the whole loop, make of where the script stands. No contract can say which bytes were read.
+-- What a turn of the program's loop, and the whole loop, make of where the script stands. Of standard input no contract says which bytes it gives.
 use Rattle.std.specs.Prelude.{◌≡◌, Bool, true, false, cond, List, [], ◌∷◌, ℕ, ◌≤◌, eqb, length, take}
 use Rattle.script_buffer.specs.Bytes.{Standing}
 use Rattle.script_buffer.specs.Room.{standing}

@@ -22,6 +22,10 @@ pub fn read_block<R: Read>(rt: &(impl Clock + Eprint), reader: &mut R, input: &m
             Err(e) => tries = tries_left(rt, tries, &e),
         }
     }
+    // Once more, also where waiting does not help.
+    if let Ok(n) = reader.read(input) {
+        return n;
+    }
     let _ = eprintln!(rt; "run_script: the input was cut");
     0
 }
@@ -54,7 +58,8 @@ fn write_some<W: Write>(rt: &impl Clock, writer: &mut W, bytes: &[u8]) -> usize
             Err(e) => tries = tries_left(rt, tries, &e),
         }
     }
-    0
+    // Once more, also where waiting does not help.
+    writer.write(bytes).unwrap_or(0)
 }
 
 // How many tries are left after one that failed: one fewer, after a pause, or none where waiting does not help.
