@@ -1,4 +1,4 @@
--- That the marks say what `every-slot-once` says.
+-- That the marks say what `every_slot_once` says.
 use mathlib.Core.Path.{◌≡◌, refl}
 use mathlib.Core.Logic.{◌≢◌}
 use mathlib.Core.Bool.{true, ◌&&◌}

@@ -43,11 +43,11 @@ module _ (e : List ℕ) (owed least s : ℕ) where
   abbrev owes : Bool
   owes = not (eqb owed 0) && leb owed (stamp_of e s)
 
-  pub point-asked :
+  pub point_asked :
       eqb (lo_of e s) (hi_of e s) && (next && is_stamped e s) && (eqb (kind_of e s) 1 || (eqb (kind_of e s) 2 && is_untallied e s && owes))
       ≡ is_point e s && record_fits e owed least s
   unfolding record_fits
-  point-asked = put_once (eqb (lo_of e s) (hi_of e s)) (eqb (kind_of e s) 1) (eqb (kind_of e s) 2) (is_untallied e s) next (is_stamped e s) owes
+  point_asked = put_once (eqb (lo_of e s) (hi_of e s)) (eqb (kind_of e s) 1) (eqb (kind_of e s) 2) (is_untallied e s) next (is_stamped e s) owes
 
   pub range_asked : is_range e s && (next && is_stamped e s) && owes ≡ is_range e s && record_fits e owed least s
   unfolding record_fits

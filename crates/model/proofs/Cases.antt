@@ -31,7 +31,7 @@ cases = record {
   limits_3_10_10 = refl;
   limits_6_2_1 = refl;
   limits_2 = λ t b d h. ap (λ x. x ∷ limit (settings 2 t b d) 1 ∷ []) (limit_first (settings 2 t b d) h (lit≤ tt) refl) ∙ ap (λ x. d / (t + 1) ∷ x ∷ []) (limit_last (settings 2 t b d) h (lit≤ tt));
-  one-slot = refl;
+  one_slot = refl;
   tick_5_merges = refl;
   tick_4_does_not = refl;
   widest_range = refl;
@@ -46,8 +46,8 @@ cases = record {
   priced = refl;
   priced_anew = refl;
   carried_4_4_100 = refl;
-  limits-6-10-most = refl;
-  long-term = refl;
+  limits_6_10_most = refl;
+  long_term = refl;
   buffer_owes = refl;
   leaves_at_once = refl;
   script = refl;
@@ -60,18 +60,18 @@ unfolding any select over covers sum merge iterate power capacity limit fresh la
     enter set_points wipe act_deepest crowded make_room full write no_slot overfull overdue due pass_level pass still_due live_from scan latest find lookup_from
     prepared finish step run answers
 near_misses = record {
-  owed-outlives-the-delete = refl;
-  term-does-not-restart = refl;
-  range-wipes-first = refl;
+  owed_outlives_the_delete = refl;
+  term_does_not_restart = refl;
+  range_wipes_first = refl;
   range_is_obeyed_above = refl;
   range_spares_what_lies_before = refl;
   range_spares_what_lies_past = refl;
-  not-full-early = refl;
-  one-pass-many-merges = refl;
+  not_full_early = refl;
+  one_pass_many_merges = refl;
   equal_clock = refl;
   scan_no_rows = refl;
-  scan-one-row = refl;
-  scan-all = refl;
+  scan_one_row = refl;
+  scan_all = refl;
   merge_reveals_the_later = refl;
 }
 

@@ -80,7 +80,7 @@ pub record CaseTable : Type 0 where
   pub limits_2 : (t b d : ℕ) → 2 ≤ t → limits (settings 2 t b d) (0 ∷ 1 ∷ []) ≡ d / (t + 1) ∷ d ∷ []
   -- "● N=1 L=2 T=2 B=1 D=4, then put 5 (tally 50) at 1, put 5 (51) at 2: merges 1, purged 1. ● Put 6 at 3: refused 7.
   -- ● Delete 5 at 4: purged 2. Put 6 at 5 succeeds."
-  pub one-slot :
+  pub one_slot :
       answers (store 1 (settings 2 2 1 4)) (P 1 5 50 7 ∷ P 2 5 51 7 ∷ P 3 6 60 7 ∷ D 4 5 ∷ P 5 6 60 7 ∷ [])
       ≡ accepts 1 0 ∷ accepts 1 1 ∷ refusing 7 ∷ accepts 0 2 ∷ accepts 1 0 ∷ []
   -- "● T 5 in the script merges (5 − 2 = 3); a tick at 4 would not."
@@ -106,9 +106,9 @@ pub record CaseTable : Type 0 where
   pub priced_anew : lookup (run (store 1 (settings 2 2 1 4)) (P 1 5 50 3 ∷ P 2 5 50 4 ∷ [])).levels 5 ≡ found (tally 50 4) 2
   -- Request S-3: what is carried to level 2, "the power carried is T^i"; D × (T^(i+1) − 1) passes 32 bits, in the limits and in a pass.
   pub carried_4_4_100 : at_level (settings 4 4 8 100) 2 ≡ record { settings = settings 4 4 8 100; level = 2; power = 16; below = 64; divisor = 255 }
-  pub limits-6-10-most :
+  pub limits_6_10_most :
       limits (settings 6 10 64 4294967295) (0 ∷ 1 ∷ 2 ∷ 3 ∷ 4 ∷ 5 ∷ []) ≡ 38654 ∷ 425202 ∷ 4290676 ∷ 42945420 ∷ 429492864 ∷ 4294967295 ∷ []
-  pub long-term :
+  pub long_term :
       answers (store 6 (settings 3 10 2 4294967295)) (D 1 7 ∷ T 38693399 ∷ T 38693400 ∷ T 425627389 ∷ T 425627390 ∷ [])
       ≡ accepts 0 0 ∷ accepts 0 0 ∷ accepts 1 0 ∷ accepts 0 0 ∷ accepts 1 0 ∷ []
   -- Request S-4: "The pass also merges the buffer when its owed is not 0 and clock − owed is at least the limit of level 0."
@@ -144,34 +144,34 @@ turned = record {
 -- What tells a store from its near misses, and the edges that carry no ●.
 pub record NearMissTable : Type 0 where
   -- "A put over a delete hides it": at 6 the older tally below goes all the same.
-  pub owed-outlives-the-delete :
+  pub owed_outlives_the_delete :
       answers (run deep sunk) (D 2 5 ∷ P 3 5 51 7 ∷ T 5 ∷ T 6 ∷ [])
       ≡ accepts 1 0 ∷ accepts 1 1 ∷ accepts 0 0 ∷ accepts 1 1 ∷ []
   -- "A second delete of a docket that restarts the term."
-  pub term-does-not-restart :
+  pub term_does_not_restart :
       answers (run deep sunk) (D 2 5 ∷ D 4 5 ∷ T 5 ∷ T 6 ∷ [])
       ≡ accepts 1 0 ∷ accepts 1 1 ∷ accepts 0 0 ∷ accepts 1 2 ∷ []
   -- "A range wiped at level L before it has wiped what it covers there."
-  pub range-wipes-first :
+  pub range_wipes_first :
       answers (run deep sunk) (R 2 5 6 ∷ T 5 ∷ T 6 ∷ []) ≡ accepts 1 0 ∷ accepts 0 0 ∷ accepts 1 3 ∷ []
   pub range_is_obeyed_above : lookup (run deep (sunk ++ R 2 5 6 ∷ [])).levels 5 ≡ absent
   -- "A delete covers the dockets from its lo to its hi", and no others.
   pub range_spares_what_lies_before : lookup (run deep (sunk ++ R 2 6 6 ∷ [])).levels 5 ≡ found (tally 50 7) 1
   pub range_spares_what_lies_past : lookup (run deep (sunk ++ R 2 6 6 ∷ [])).levels 7 ≡ found (tally 70 7) 1
   -- "If a slot is now free, the write goes on as usual."
-  pub not-full-early :
+  pub not_full_early :
       answers (store 2 (settings 2 2 1 9)) (P 1 5 50 7 ∷ D 2 5 ∷ P 3 6 60 7 ∷ P 4 7 70 7 ∷ [])
       ≡ accepts 1 0 ∷ accepts 1 1 ∷ accepts 1 0 ∷ accepts 2 1 ∷ []
   -- Limit 0 is a limit: one pass takes a delete down through every level that has it.
-  pub one-pass-many-merges :
+  pub one_pass_many_merges :
       answers (store 6 (settings 6 2 2 1)) (P 1 5 50 7 ∷ D 1 6 ∷ T 2 ∷ []) ≡ accepts 0 0 ∷ accepts 5 0 ∷ accepts 1 1 ∷ []
   -- "Clock equal to the last is accepted. Scan with no rows over a live docket: count 0, more."
   pub equal_clock : answers hall (P 3 5 50 7 ∷ P 3 6 60 7 ∷ P 2 6 61 7 ∷ []) ≡ accepts 0 0 ∷ accepts 1 0 ∷ refusing 5 ∷ []
   pub scan_no_rows : scan (lookup (run deep sunk).levels) 6 7 0 ≡ record { rows = []; count = 0; more = true; next = 6 }
-  pub scan-one-row :
+  pub scan_one_row :
       scan (lookup (run deep sunk).levels) 5 6 1
       ≡ record { rows = record { key = 5; tally = tally 50 7; stamp = 1 } ∷ []; count = 1; more = true; next = 6 }
-  pub scan-all :
+  pub scan_all :
       scan (lookup (run deep sunk).levels) 6 6 1
       ≡ record { rows = record { key = 6; tally = tally 60 7; stamp = 1 } ∷ []; count = 1; more = false; next = 0 }
   -- A merge changes no lookup where what lies deeper is older; else it may, since the range takes away the delete and not the put.

@@ -39,9 +39,9 @@ pub record WakeTable : Type 0 where
   -- "T 5 in the script merges (5 − 2 = 3); a tick at 4 would not." Then level 2, at 2 + 9, and then nothing.
   pub script : map (wake_after hall) (noon ∷ (noon ++ T 4 ∷ []) ∷ (noon ++ T 5 ∷ []) ∷ (noon ++ T 5 ∷ T 11 ∷ []) ∷ []) ≡ At 5 ∷ At 5 ∷ At 11 ∷ Never ∷ []
   -- The sleep of a shift: the buffer's 68, level 1's 340 and level 2's 1,430 minutes after the delete, a merge at each and none a minute before.
-  pub shift-sleeps :
+  pub shift_sleeps :
       map (wake_after shift) (lot ∷ (lot ++ T 668 ∷ []) ∷ (lot ++ T 668 ∷ T 940 ∷ []) ∷ (lot ++ T 668 ∷ T 940 ∷ T 2030 ∷ []) ∷ []) ≡ At 668 ∷ At 940 ∷ At 2030 ∷ Never ∷ []
-  pub shift-merges :
+  pub shift_merges :
       answers (run shift lot) (T 667 ∷ T 668 ∷ T 939 ∷ T 940 ∷ T 2029 ∷ T 2030 ∷ [])
       ≡ accepts 0 0 ∷ accepts 1 0 ∷ accepts 0 0 ∷ accepts 1 0 ∷ accepts 0 0 ∷ accepts 1 1 ∷ []
   -- "the smallest": here the deeper level's, 1 + 9, before the buffer's, 8 + 3.

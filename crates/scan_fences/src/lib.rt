@@ -34,7 +34,7 @@ struct Seen {
 pub fn survey(e: &[u32], ranges: &mut [u32], levels: usize, docket: u32) -> Cover
     requires ready { Ready e.now ranges.old levels }
     requires docket_bound { docket ≤ 65535 }
-    ensures { record { ranges = ranges.exit.now; cover = result } ≡ surveyed e.now docket levels ranges.entry.now }
+    ensures { record { ranges = ranges.new; cover = result } ≡ surveyed e.now docket levels ranges.old }
 {
     let mut seen = Seen {
         date: 0,

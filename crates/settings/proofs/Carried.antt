@@ -48,10 +48,10 @@ module _ (c : LevelSettings) (h : Carried c) where
   carried_divisor = ap (λ (x : LevelSettings). x.divisor) h.here
 
   -- The power below, multiplied once, makes the next level's.
-  pub carried-next :
+  pub carried_next :
       record { settings = c.settings; level = c.level + 1; power = c.below; below = c.below * c.settings.ratio; divisor = c.divisor }
       ≡ at_level c.settings (c.level + 1)
-  carried-next = rw (carried_divisor, power_next c.settings (c.level + 1), carried_below) refl
+  carried_next = rw (carried_divisor, power_next c.settings (c.level + 1), carried_below) refl
 
   -- The limit and the capacity taken from it are those of its level.
   pub carried_limit : c.settings.term * (c.below - 1) / c.divisor ≡ limit c.settings c.level

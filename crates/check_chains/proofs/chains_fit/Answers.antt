@@ -1,4 +1,4 @@
--- `chains_fit`: slot 0 and the deepest owed are tested, then the free chain is walked, then the levels over its marks, as `chains-checked` says.
+-- `chains_fit`: slot 0 and the deepest owed are tested, then the free chain is walked, then the levels over its marks, as `chains_checked` says.
 use mathlib.Core.Path.{◌≡◌, refl, sym, ◌∙◌}
 use mathlib.Core.Bool.{true}
 use Rattle.tables.specs.Rows.{settings_of, level_row}

@@ -1,4 +1,4 @@
--- `set_row`: its stores are those of `set-row`.
+-- `set_row`: its stores are those of `set_row`.
 use mathlib.Core.Path.{refl}
 use native.Mathlib.Omega.{arith}
 use lib.ListN.{length-set}

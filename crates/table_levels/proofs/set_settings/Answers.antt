@@ -1,4 +1,4 @@
--- `set_settings`: its stores are those of `set-settings`.
+-- `set_settings`: its stores are those of `set_settings`.
 use mathlib.Core.Path.{refl}
 use native.Mathlib.Omega.{arith}
 use lib.ListN.{length-set}

@@ -1,4 +1,4 @@
--- `set_record`: the two halves of each word are stacked as `link-to` and `span-from` say.
+-- `set_record`: the two halves of each word are stacked as `link_to` and `span_from` say.
 use mathlib.Core.Path.{◌≡◌, ap, ◌∙◌}
 use Prim.Native.Nat.{ℕ, ◌*◌}
 use native.Mathlib.Omega.{arith}

@@ -1,4 +1,4 @@
--- `set_slot`: its two stores, and those of `set_tally`, are in their order those of `set-slot`.
+-- `set_slot`: its two stores, and those of `set_tally`, are in their order those of `set_slot`.
 use mathlib.Core.Path.{◌≡◌, sym, ap, ◌∙◌}
 use mathlib.Core.List.{List}
 use Prim.Native.Nat.{ℕ, ◌+◌, ◌*◌}

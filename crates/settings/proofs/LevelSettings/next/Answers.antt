@@ -1,6 +1,6 @@
 -- `settings::LevelSettings::next`: the power below, multiplied once, makes those of the next level.
 use native.Mathlib.Omega.{arith}
-use Rattle.settings.proofs.Carried.{carried-next, carried_next_fits}
+use Rattle.settings.proofs.Carried.{carried_next, carried_next_fits}
 use Rattle.settings.proofs.LevelSettings.next.Goals as goal
 
 pub overflow_mul-below : goal.overflow_mul-below
@@ -9,4 +9,4 @@ overflow_mul-below c =
 
 pub returns : goal.returns
 returns c =
-    carried-next c.args.self c.requires
+    carried_next c.args.self c.requires

@@ -1,4 +1,4 @@
--- `settings::Settings::capacity`: the one test is `level-from 1`, and a level's capacity is taken from what is carried to it.
+-- `settings::Settings::capacity`: the one test is `level_from 1`, and a level's capacity is taken from what is carried to it.
 use mathlib.Core.Path.{◌≡◌, sym, ap, ◌∙◌}
 use mathlib.Core.Bool.{true}
 use Rattle.lists.proofs.Branches.{fails, holds}

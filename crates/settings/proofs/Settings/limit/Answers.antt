@@ -1,4 +1,4 @@
--- `settings::Settings::limit`: the one test is `level-from 0`, and a level's limit is taken from what is carried to it.
+-- `settings::Settings::limit`: the one test is `level_from 0`, and a level's limit is taken from what is carried to it.
 use mathlib.Core.Path.{◌≡◌, sym, ap, ◌∙◌}
 use mathlib.Core.Bool.{true}
 use Rattle.lists.proofs.Branches.{fails, holds}
