@@ -88,13 +88,13 @@ def statement(text, declared):
 
 class Names:
     def __init__(self):
-        self.specs, self.types, self.lemmas, self.fields, self.local, self.library, self.plain = set(), set(), {}, set(), set(), set(), set()
+        self.specs, self.types, self.lemmas, self.fields, self.local, self.imported, self.plain = set(), set(), {}, set(), set(), set(), set()
         for path in files():
             text = COMMENT.sub("", path.read_text())
             in_specs = "specs" in path.relative_to(CRATES).parts
             for where, names in USE.findall(text):
                 if not re.match(r"Rattle\.(?!std\b|core\b|std_)", where):
-                    self.library |= {n.split(" as ")[0].strip() for n in names.split(",")}
+                    self.imported |= {n.split(" as ")[0].strip() for n in names.split(",")}
             for m in DECLARED.finditer(text):
                 words, name, _, kind = m.groups()
                 if kind.startswith("tie."):
@@ -116,7 +116,7 @@ class Names:
     def table(self):
         table = {}
         for name in sorted(self.specs | self.types | set(self.lemmas) | self.fields | self.local):
-            if not dashed(name) or name in self.library:
+            if not dashed(name) or name in self.imported:
                 continue
             if name in self.specs or name in self.fields:
                 new = snake(name)
@@ -164,7 +164,7 @@ def main():
     names = Names()
     table = names.table()
     meet = collections.defaultdict(set)
-    for name in names.plain | names.library | names.local:
+    for name in names.plain | names.imported | names.local:
         meet[table.get(name, name)].add(name)
     for new, olds in sorted(meet.items()):
         if len(olds) > 1:
