@@ -1,4 +1,3 @@
 -- Laws of answers as numbers.
-pub mod Packing
 pub mod Readers
 pub mod ReadBack

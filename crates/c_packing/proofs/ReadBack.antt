@@ -7,14 +7,11 @@ use Rattle.model.specs.declared.Tally.{Tally}
 use Rattle.model.specs.Calls.{Call}
 use Rattle.tables.specs.Words.{Fits32}
 use Rattle.tables.specs.Slots.{clock_of}
-use Rattle.lookup.specs.declared.CountAnswer.{CountAnswer}
-use Rattle.lookup.specs.declared.CountAnswer.TheVariants.{Refused, Absent, Found}
-use Rattle.lookup.specs.Lookup.{lookup_tables, numbers}
+use Rattle.std.proofs.Common.{Option, None, Some, Result, Ok, Err}
+use Rattle.lookup.specs.Lookup.{Answer, Refused, Absent, Found, lookup_tables, numbers}
 use Rattle.lookup.specs.Counts.{lookup_counts, count_numbers, with_price}
 use Rattle.lookup.proofs.Counts.{counts_without_prices, numbers_back}
 use Rattle.lookup.proofs.Bounds as lookups
-use Rattle.wake.specs.declared.Answer as wake
-use Rattle.wake.specs.declared.Answer.TheVariants as waking
 use Rattle.wake.specs.Wake.{wake_tables}
 use Rattle.wake.proofs.Bounds as wakes
 use Rattle.scan.specs.declared.Row.{Row}
@@ -37,7 +34,7 @@ module _ (e l : List ℕ) where
   pub count_reads_back : (k : ℕ) → Fits32 e → read_lookup (packed (lookup_counts e l k)) ≡ count_numbers (lookup_counts e l k)
   count_reads_back k fits = go (lookup_counts e l k) (lookups.count_low e l fits k)
     where
-      go : (a : CountAnswer) → lookups.CountLow (clock_of e) a → read_lookup (packed a) ≡ count_numbers a
+      go : (a : Answer ℕ) → lookups.CountLow (clock_of e) a → read_lookup (packed a) ≡ count_numbers a
       go (Refused n) low = refused_read n (omega arith)
       go Absent low = refl
       go (Found count stamp) low = found_read count stamp low.0 low.1 (omega (arith, low.2, fits 1))
@@ -54,10 +51,10 @@ module _ (e l : List ℕ) where
   pub wake_reads_back : Fits32 e → read_wake (packed_wake (wake_tables e l)) ≡ wake_tables e l
   wake_reads_back fits = go (wake_tables e l) (wakes.answer_low e l fits)
     where
-      go : (a : wake.Answer) → wakes.AnswerLow a → read_wake (packed_wake a) ≡ a
-      go (waking.Refused n) low = no_clock_read n low.0 (omega (arith, low.1))
-      go waking.Never low = refl
-      go (waking.At m) low = clock_read m (omega arith)
+      go : (a : Result (Option ℕ) ℕ) → wakes.AnswerLow a → read_wake (packed_wake a) ≡ a
+      go (Err n) low = no_clock_read n low.0 (omega (arith, low.1))
+      go (Ok None) low = refl
+      go (Ok (Some m)) low = clock_read m (omega arith)
 
   -- Refusal, count, 'more' and the next docket.
   pub scan_reads_back : (lo hi : ℕ) (rows : List Row) → read_scan (packed_scan (scan_tables e l lo hi rows).answer) ≡ (scan_tables e l lo hi rows).answer

@@ -8,10 +8,10 @@ use lib.Dec.{eqb}
 use lib.Arith.{digits_div, digits_mod}
 use borrow.Author.Tests.{ne_eqb}
 use Rattle.model.specs.Calls as model
-use Rattle.lookup.specs.declared.CountAnswer.TheVariants.{Refused, Found}
+use Rattle.std.proofs.Common.{Some, Ok, Err}
+use Rattle.lookup.specs.Lookup.{Refused, Found}
 use Rattle.lookup.specs.Counts.{count_numbers}
-use Rattle.wake.specs.declared.Answer.TheVariants as waking
-use Rattle.scan.specs.declared.Scanned.{Scanned}
+use Rattle.scan.specs.Scan as scans
 use Rattle.c_packing.specs.Packed.{packed, answer_number, packed_scan}
 use Rattle.c_packing.specs.Readers.{read_timed, read_lookup, read_wake, read_scan}
 
@@ -53,10 +53,10 @@ found_read count stamp low some high =
     )
 
 -- A clock has no bit 63; a refusal stands below it, and none has nothing there.
-pub clock_read : (m : ℕ) → m < 9223372036854775808 → read_wake m ≡ waking.At m
+pub clock_read : (m : ℕ) → m < 9223372036854775808 → read_wake m ≡ Ok (Some m)
 clock_read m low = rw (above m 0 9223372036854775808 m (omega arith) low)
 
-pub no_clock_read : (n : ℕ) → 1 ≤ n → n < 4294967296 → read_wake (9223372036854775808 + n) ≡ waking.Refused n
+pub no_clock_read : (n : ℕ) → 1 ≤ n → n < 4294967296 → read_wake (9223372036854775808 + n) ≡ Err n
 no_clock_read n some low =
     rw (
       above (9223372036854775808 + n) 1 9223372036854775808 n (omega arith) (omega arith),
@@ -76,7 +76,7 @@ bit_read : (b : Bool) → eqb (bit b) 1 ≡ b
 bit_read true = refl
 bit_read false = refl
 
-module _ (a : Scanned) (c : a.count < 4294967296) (n : a.next < 65536) (r : a.refusal < 256) where
+module _ (a : scans.Numbers) (c : a.count < 4294967296) (n : a.next < 65536) (r : a.refusal < 256) where
   sum_is : packed_scan a ≡ ((a.refusal * 256 + bit a.more) * 65536 + a.next) * 4294967296 + a.count
   sum_is = go a.more
     where

@@ -1,11 +1,9 @@
 -- What the readers of include/guontrem.h take out of an answer's number, operation by operation: `>> n` divides by 2^n, the cast to uint32_t and a mask
 -- are the remainder by 2^32 and by one more than the mask; `>>` binds closer than `&` and `!=`.
-use Rattle.std.specs.Prelude.{cond, ℕ, ◌/◌, ◌%◌, eqb}
+use Rattle.std.specs.Prelude.{cond, ℕ, ◌/◌, ◌%◌, eqb, Option, None, Some, Result, Ok, Err}
 use Rattle.model.specs.Calls as model
 use Rattle.lookup.specs.Counts.{CountNumbers}
-use Rattle.wake.specs.declared.Answer as wake
-use Rattle.wake.specs.declared.Answer.TheVariants as waking
-use Rattle.scan.specs.declared.Scanned.{Scanned}
+use Rattle.scan.specs.Scan as scans
 
 -- `guontrem_timed_refusal` is `(uint32_t)(answer >> 40)`, `_merges` `(uint32_t)(answer >> 32 & 0xff)`, `_purged` `(uint32_t)answer`.
 -- What a mask leaves has room in the cast.
@@ -23,12 +21,12 @@ read_lookup n = record {
 }
 
 -- `guontrem_wake_due` is `answer >> 63 == 0`. Due: `_clock` is the answer, `_refusal` 0; else `_clock` is 2^63, which is none, `_refusal` is `(uint32_t)answer`.
-abbrev pub read_wake : ℕ → wake.Answer
-read_wake n = cond (eqb (n / 9223372036854775808) 0) (waking.At n) (cond (eqb (n % 4294967296) 0) waking.Never (waking.Refused (n % 4294967296)))
+abbrev pub read_wake : ℕ → Result (Option ℕ) ℕ
+read_wake n = cond (eqb (n / 9223372036854775808) 0) (Ok (Some n)) (cond (eqb (n % 4294967296) 0) (Ok None) (Err (n % 4294967296)))
 
 -- `guontrem_scan_refusal` is `(uint32_t)(answer >> 56)`, `_count` `(uint32_t)answer`, `_more` `(int)(answer >> 48 & 1)`,
 -- `_next` `(uint32_t)(answer >> 32 & 0xffff)`.
-abbrev pub read_scan : ℕ → Scanned
+abbrev pub read_scan : ℕ → scans.Numbers
 read_scan n = record {
   refusal = n / 72057594037927936 % 4294967296;
   count = n % 4294967296;

@@ -1,11 +1,14 @@
-// The answers of the calls, each as one number.
+// The answers of the calls, each as one number. A refusal comes as a number of any size, as C has it.
 #![tactic(auto)]
 
 ghost use Rattle.std.specs.Prelude.{◌≡◌, ◌<◌, ◌≤◌};
-ghost use Rattle.lookup.specs.Lookup.{numbers};
+ghost use Rattle.lookup.specs.Lookup.{answer_of, numbers};
+ghost use Rattle.scan.specs.Scan as scans;
 ghost use Rattle.c_packing.specs.Packed.{packed, answer_number, packed_wake, packed_scan};
 
-use lookup::{Answer, CountAnswer};
+use lookup_level::Found;
+use model::Tally;
+use refusals::Refusal;
 use scan::Scanned;
 
 // Stamps stand above the count.
@@ -27,24 +30,24 @@ const MORE_UNIT: u64 = 281474976710656;
 const SCAN_REFUSAL_UNIT: u64 = 72057594037927936;
 
 // The answer of a lookup as one number, which has no room for a price.
-pub fn pack_lookup(answer: CountAnswer) -> u64
-    ensures { result ≡ packed answer }
+pub fn pack_lookup(answer: Result<Option<Found<u32>>, u32>) -> u64
+    ensures { result ≡ packed (answer_of answer) }
 {
     match answer {
-        CountAnswer::Refused(number) => number as u64,
-        CountAnswer::Absent => 0,
-        CountAnswer::Found(count, stamp) => count as u64 + STAMP_UNIT * stamp as u64,
+        Ok(Some(found)) => found.shown as u64 + STAMP_UNIT * found.stamp as u64,
+        Ok(None) => 0,
+        Err(refusal) => refusal as u64,
     }
 }
 
 // The price that goes beside it: 0 where the docket is absent or the lookup refused.
-pub fn price_of(answer: Answer) -> u32
-    ensures { result ≡ (numbers answer).price }
+pub fn price_of(answer: Result<Option<Found<Tally>>, u32>) -> u32
+    ensures { result ≡ (numbers (answer_of answer)).price }
 {
     match answer {
-        Answer::Refused(_) => 0,
-        Answer::Absent => 0,
-        Answer::Found(tally, _) => tally.price,
+        Ok(Some(found)) => found.shown.price,
+        Ok(None) => 0,
+        Err(_) => 0,
     }
 }
 
@@ -58,26 +61,38 @@ pub fn pack(refusal: u32, merges: u32, purged: u32) -> u64
 }
 
 // When to wake as one number: the clock, or bit 63 alone for none, or with the refusal below it.
-pub fn pack_wake(answer: wake::Answer) -> u64
+pub fn pack_wake(answer: Result<Option<u64>, u32>) -> u64
     ensures { result ≡ packed_wake answer }
 {
     match answer {
-        wake::Answer::Refused(number) => NO_CLOCK + number as u64,
-        wake::Answer::Never => NO_CLOCK,
-        wake::Answer::At(clock) => clock,
+        Ok(Some(clock)) => clock,
+        Ok(None) => NO_CLOCK,
+        Err(refusal) => NO_CLOCK + refusal as u64,
     }
 }
 
 // The answer of a scan as one number.
-pub fn pack_scan(answer: Scanned) -> u64
-    requires { (answer.count < 4294967296) × (answer.next < 65536) × (answer.refusal < 256) }
-    ensures { result ≡ packed_scan answer }
+pub fn pack_scanned(answer: Result<Scanned, Refusal>) -> u64
+    requires { ((scans.numbers answer).count < 4294967296) × ((scans.numbers answer).next < 65536) }
+    ensures { result ≡ packed_scan (scans.numbers answer) }
 {
-    if answer.more {
-        return answer.count as u64
-            + NEXT_UNIT * answer.next as u64
-            + MORE_UNIT
-            + SCAN_REFUSAL_UNIT * answer.refusal as u64;
+    match answer {
+        Ok(
+            Scanned {
+                count,
+                next: Some(docket),
+            },
+        ) => pack_scan(0, count, true, docket),
+        Ok(Scanned { count, next: None }) => pack_scan(0, count, false, 0),
+        Err(refusal) => pack_scan(refusal.number(), 0, false, 0),
     }
-    answer.count as u64 + NEXT_UNIT * answer.next as u64 + SCAN_REFUSAL_UNIT * answer.refusal as u64
+}
+
+// The numbers of a scan's answer in one. 'More' and the next docket stand apart, as C has them.
+pub fn pack_scan(refusal: u32, count: usize, more: bool, next: u32) -> u64
+    requires { (count < 4294967296) × (next < 65536) × (refusal < 256) }
+    ensures { result ≡ packed_scan (record { refusal = refusal; count = count; more = more; next = next }) }
+{
+    let more = if more { MORE_UNIT } else { 0 };
+    count as u64 + NEXT_UNIT * next as u64 + more + SCAN_REFUSAL_UNIT * refusal as u64
 }

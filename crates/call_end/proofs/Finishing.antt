@@ -33,7 +33,7 @@ module _ {g : Store} {e l : List ℕ} {t before merges : ℕ} (d : Ending g e l 
     pub held_fits : held ≤ before
     held_fits = omega (arith, d.enough)
 
-    pub ended : Ended g t before merges (set_clock e' t) l' (record { refusal = 0; merges = merges + more; purged = before - held })
+    pub ended : Ended g t before merges (set_clock e' t) l' (record { merges = merges + more; purged = before - held })
     ended = record {
       entries = rw d.time_is at (clocked g.slots g.time e' after w.laid.formed w.laid.entries);
       levels = w.laid.levels ∙ sym (timed_levels t after);

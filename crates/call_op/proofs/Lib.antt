@@ -1,3 +1,2 @@
--- The dockets that operations name, and what an operation is whose work is known.
-pub mod Named
+-- What an operation is whose work is known.
 pub mod Known

@@ -1,16 +1,16 @@
 -- The ways of a write, as its code meets them: what each part is handed, and that each way ends in what the definition prepares.
 use mathlib.Core.Path.{◌≡◌, refl, sym, ap, ◌∙◌}
 use mathlib.Core.Logic.{◌≢◌}
-use mathlib.Core.Bool.{Bool, true, false, not, false≢true}
+use mathlib.Core.Bool.{Bool, true, false, not}
 use mathlib.Core.List.{List}
 use Prim.Native.Nat.{ℕ}
 use Rattle.lists.specs.Lists.{none}
-use Rattle.lists.proofs.Branches.{fails, holds}
 use Rattle.model.specs.declared.Tally.{Tally}
 use Rattle.model.specs.Records.{State}
 use Rattle.model.specs.Merge.{release}
-use Rattle.model.specs.Steps.{Write, merge_all, displaced, enter, act_deepest, crowded}
+use Rattle.model.specs.Steps.{Write, merge_all, displaced, enter, crowded}
 use Rattle.model.specs.Calls.{written}
+use Rattle.refusals.specs.declared.Refusal.TheVariants.{Full}
 use Rattle.tables.specs.Slots.{slots_of, first_free}
 use Rattle.tables.specs.Placed.{read_state}
 use Rattle.tables.proofs.Back.{formed_words}
@@ -22,17 +22,13 @@ use Rattle.merge_levels.specs.Laid.{Laid, Worked, at_state}
 use Rattle.call_refusal.specs.Began.{store}
 use Rattle.call_refusal.proofs.Begun.{begun_formed, begun_deep, begun_laid}
 use Rattle.merge_levels.proofs.Free.{no_free, some_free}
-use Rattle.call_prepare.specs.Writing.{Writes, Crowded, Prepares}
+use Rattle.call_prepare.specs.Writing.{Writes, Crowded, Done, OutOfSlots}
 use Rattle.call_prepare.proofs.Preparing.{Leads, enters, enters_room, enters_after, enters_after_room, no_slot_is, acts, merged_settings}
 
 -- A write that is not out of slots and leads to the state q.
 prepares : {e l : List ℕ} {t : ℕ} {v : Write Tally} {q : State ℕ Tally} {m : ℕ} → Leads t v (read_state e l) q m
-    → {e' l' : List ℕ} → Laid (at_state (store e l t) q) e' l' → Prepares e l t (written v) e' l' (record { full = false; merges = m })
-prepares r d = record {
-  full_is = sym r.slot;
-  works = λ _. rw r.work (record { laid = d; counts = refl });
-  merged = λ f. absurd (false≢true f);
-}
+    → {e' l' : List ℕ} → Laid (at_state (store e l t) q) e' l' → Done e l t (written v) e' l' m
+prepares r d = record { slot = r.slot; works = rw r.work (record { laid = d; counts = refl }) }
 
 -- A write with room.
 module _ {v : Write Tally} {e l : List ℕ} {t : ℕ} {w : Record} (k : Writes v e l t w) (room : crowded t v (read_state e l) ≡ false) where
@@ -47,7 +43,7 @@ module _ {v : Write Tally} {e l : List ℕ} {t : ℕ} {w : Record} (k : Writes v
   }
 
   pub entered : {e' l' : List ℕ} → Laid (at_state (store e l t) (enter t v (read_state e l))) e' l'
-      → Prepares e l t (written v) e' l' (record { full = false; merges = 0 })
+      → Done e l t (written v) e' l' 0
   entered = prepares (enters t v (read_state e l) room)
 
 -- A crowded write, once levels 0 to L−1 are merged.
@@ -77,7 +73,7 @@ module _ {v : Write Tally} {e l : List ℕ} {t : ℕ} {w : Record} (k : Crowded 
     }
 
     pub entered_after : {e'' l'' : List ℕ} → Laid (at_state (store e l t) (enter t v merged)) e'' l''
-        → Prepares e l t (written v) e'' l'' (record { full = false; merges = m })
+        → Done e l t (written v) e'' l'' m
     entered_after = prepares (enters_after t v p k.no_room freed m d.counts)
 
   module _ (f : first_free e' ≡ 0) {e'' l'' : List ℕ} {done : Bool} (a : Acted (at_state (store e l t) merged) v e' l' e'' l'' done) where
@@ -87,15 +83,16 @@ module _ {v : Write Tally} {e l : List ℕ} {t : ℕ} {w : Record} (k : Crowded 
     same : merged.settings ≡ p.settings
     same = merged_settings p (begun_deep k.writes.began)
 
-    leads : not done ≡ false → Leads t v p (act_deepest t v merged) m
-    leads h = acts t v p k.no_room full same (holds a.done_is h) m d.counts
+    -- It acted on level L.
+    pub acted : done ≡ true → Done e l t (written v) e'' l'' m
+    acted h = prepares (acts t v p k.no_room full same (sym a.done_is ∙ h) m d.counts) a.laid
 
-    -- It acted on level L, or was a put whose docket is not there: then the tables are the merged ones.
-    pub acted : Prepares e l t (written v) e'' l'' (record { full = not done; merges = m })
-    acted = record {
-      full_is = ap not a.done_is ∙ sym (no_slot_is t v p k.no_room full same);
-      works = λ h. (prepares (leads h) a.laid).works refl;
-      merged = λ h. let kept = a.kept (fails refl h) in (
+    -- Or it was a put whose docket is not there: then the tables are the merged ones.
+    pub no_slot_left : done ≡ false → OutOfSlots e l t (written v) e'' l'' Full
+    no_slot_left h = let kept = a.kept h in record {
+      full = refl;
+      no_slot = no_slot_is t v p k.no_room full same ∙ ap not (sym a.done_is ∙ h);
+      merged = (
         kept.0 ∙ formed_words (slots_of e) merged (merge_all_formed (slots_of e) p (begun_formed k.writes.began)) e' d.laid.entries,
         kept.1 ∙ d.laid.levels,
       );

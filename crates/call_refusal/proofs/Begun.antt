@@ -6,11 +6,11 @@ use mathlib.Core.List.{List}
 use Prim.Native.Nat.{ℕ, ◌<◌, ◌≤◌}
 use native.Mathlib.Omega.{arith}
 use lib.Dec.{eqb, ltb}
-use borrow.Author.Tests.{eq-eqb, ne_eqb, eqb-true, eqb-false, ltb-false, lt-ltb, le-ltb}
+use borrow.Author.Tests.{eq-eqb, ne_eqb, eqb-true, eqb-false, ltb-false}
 use Rattle.settings.proofs.Allowed.{allowed_bounds}
 use Rattle.lists.proofs.Bools.{or_false_left, or_false_right}
 use Rattle.model.specs.declared.Tally.{Tally}
-use Rattle.model.specs.Calls.{Op, Call, refusing, bad_docket, bad_clock, bad_date, early_refusal, step}
+use Rattle.model.specs.Calls.{Op, Call, refusing, bad_clock, early_refusal, step}
 use Rattle.model.proofs.StepView.{let_in_docket, let_in_time, let_in_date}
 use Rattle.tables.specs.Slots.{slots_of, InTable, clock_of}
 use Rattle.tables.specs.Words.{Fits32}
@@ -21,8 +21,6 @@ use Rattle.tables.proofs.Back.{formed_holds}
 use Rattle.tables.proofs.FormedSound.{sound_words}
 use Rattle.tables.proofs.SoundWords.{sound_facts}
 use Rattle.tables.proofs.FormedSteps.{timed_formed}
-use Rattle.check_refusal.specs.Dockets.{bad_dockets, docket_refusal}
-use Rattle.check_refusal.proofs.Refusals.{allowed_sound, allowed_dockets}
 use Rattle.call_tables.specs.Calls.{Tables, Called, lent, call_tables}
 use Rattle.call_tables.proofs.Runs.{rewritten}
 use Rattle.merge_levels.specs.Laid.{Laid}
@@ -55,49 +53,6 @@ module _ {e l : List ℕ} {t : ℕ} {op : Op Tally} (b : Began e l t op) where
     entries = rw (sym (sound_words e l b.fits b.sound).entries) at (formed_holds (slots_of e) (read_state e l) begun_formed);
     levels = (sound_words e l b.fits b.sound).levels;
   }
-
--- The number r was found for an operation that names the dockets from lo to hi.
-pub record Checked (e l : List ℕ) (op : Op Tally) (r : ℕ) : Type 0 where
-  pub lo : ℕ
-  pub hi : ℕ
-  pub dockets : bad_docket op ≡ bad_dockets lo hi
-  pub number : r ≡ docket_refusal e l lo hi
-
--- The number that the code's tests give, one way out after the other.
-module _ {e l : List ℕ} {op : Op Tally} {r : ℕ} (found : Checked e l op r) where
-  -- The tables and the dockets are asked for first, whatever the clock.
-  pub refused_dockets : (t : ℕ) → r ≢ 0 → r ≡ call_refusal e l (record { clock = t; op = op })
-  refused_dockets t = go (eqb (table_refusal e l) 0) (bad_docket op) _ (rw (← found.dockets) at found.number)
-    where
-      go : (sound bad : Bool) (later : ℕ) → r ≡ cond sound (cond bad 4 0) (table_refusal e l) → r ≢ 0 → r ≡ cond sound (cond bad 4 later) (table_refusal e l)
-      go true true later q h = q
-      go true false later q h = absurd (h q)
-      go false bad later q h = q
-
-  module _ (z : r ≡ 0) where
-    pub sound_tables : table_refusal e l ≡ 0
-    sound_tables = allowed_sound e l found.lo found.hi (sym found.number ∙ z)
-
-    in_range : bad_docket op ≡ false
-    in_range = found.dockets ∙ allowed_dockets e l found.lo found.hi (sym found.number ∙ z)
-
-    module _ (t : ℕ) where
-      abbrev call : Call Tally
-      call = record { clock = t; op = op }
-
-      pub refused_zero : t ≡ 0 → 5 ≡ call_refusal e l call
-      refused_zero h = rw (sound_tables, in_range, eq-eqb t 0 h)
-
-      module _ (n : t ≢ 0) where
-        pub refused_early : t < clock_of e → 5 ≡ call_refusal e l call
-        refused_early h = rw (sound_tables, in_range, ne_eqb t 0 n, lt-ltb t (clock_of e) h)
-
-        module _ (h : clock_of e ≤ t) where
-          pub refused_date : bad_date t op ≡ true → 10 ≡ call_refusal e l call
-          refused_date d = rw (sound_tables, in_range, ne_eqb t 0 n, le-ltb t (clock_of e) h, d)
-
-          pub not_refused : bad_date t op ≡ false → 0 ≡ call_refusal e l call
-          not_refused d = rw (sound_tables, in_range, ne_eqb t 0 n, le-ltb t (clock_of e) h, d)
 
 -- Sound tables have a slot 0.
 pub sound_slot_zero : (e l : List ℕ) → table_refusal e l ≡ 0 → InTable e 0

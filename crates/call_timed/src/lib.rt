@@ -1,4 +1,4 @@
-// The timed calls, each one operation of `call`.
+// The timed calls, each one operation of `call`: six names, so that a caller says which call it makes and hands over what that one needs.
 #![tactic(auto)]
 
 ghost use Rattle.std.specs.Prelude.{◌≡◌};
@@ -11,9 +11,16 @@ use call_any::call;
 use call_end::Answer;
 use call_op::Op;
 use model::Tally;
+use refusals::Refusal;
 
 // Puts a docket's tally.
-pub fn put(entries: &mut [u32], levels: &mut [u32], clock: u32, docket: u32, tally: Tally) -> Answer
+pub fn put(
+    entries: &mut [u32],
+    levels: &mut [u32],
+    clock: u32,
+    docket: u32,
+    tally: Tally,
+) -> Result<Answer, Refusal>
     ensures { called entries.new levels.new result ≡
         call_tables (lent entries.old levels.old) (record { clock = clock; op = written (put docket tally) }) }
 {
@@ -21,14 +28,25 @@ pub fn put(entries: &mut [u32], levels: &mut [u32], clock: u32, docket: u32, tal
 }
 
 // Deletes a docket.
-pub fn delete(entries: &mut [u32], levels: &mut [u32], clock: u32, docket: u32) -> Answer
+pub fn delete(
+    entries: &mut [u32],
+    levels: &mut [u32],
+    clock: u32,
+    docket: u32,
+) -> Result<Answer, Refusal>
     ensures { called entries.new levels.new result ≡ call_tables (lent entries.old levels.old) (record { clock = clock; op = written (delete docket) }) }
 {
     call(entries, levels, clock, Op::Delete(docket))
 }
 
 // Deletes the dockets from lo to hi; its clock is its date.
-pub fn delete_range(entries: &mut [u32], levels: &mut [u32], clock: u32, lo: u32, hi: u32) -> Answer
+pub fn delete_range(
+    entries: &mut [u32],
+    levels: &mut [u32],
+    clock: u32,
+    lo: u32,
+    hi: u32,
+) -> Result<Answer, Refusal>
     ensures { called entries.new levels.new result ≡
         call_tables (lent entries.old levels.old) (record { clock = clock; op = written (delete_range lo hi clock) }) }
 {
@@ -43,7 +61,7 @@ pub fn delete_range_dated(
     lo: u32,
     hi: u32,
     date: u32,
-) -> Answer
+) -> Result<Answer, Refusal>
     ensures { called entries.new levels.new result ≡
         call_tables (lent entries.old levels.old) (record { clock = clock; op = written (delete_range lo hi date) }) }
 {
@@ -51,14 +69,14 @@ pub fn delete_range_dated(
 }
 
 // Merges the buffer, full or not, and does the pass.
-pub fn flush(entries: &mut [u32], levels: &mut [u32], clock: u32) -> Answer
+pub fn flush(entries: &mut [u32], levels: &mut [u32], clock: u32) -> Result<Answer, Refusal>
     ensures { called entries.new levels.new result ≡ call_tables (lent entries.old levels.old) (record { clock = clock; op = flush }) }
 {
     call(entries, levels, clock, Op::Flush)
 }
 
 // Does the pass alone.
-pub fn tick(entries: &mut [u32], levels: &mut [u32], clock: u32) -> Answer
+pub fn tick(entries: &mut [u32], levels: &mut [u32], clock: u32) -> Result<Answer, Refusal>
     ensures { called entries.new levels.new result ≡ call_tables (lent entries.old levels.old) (record { clock = clock; op = tick }) }
 {
     call(entries, levels, clock, Op::Tick)

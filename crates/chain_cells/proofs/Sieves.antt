@@ -16,7 +16,7 @@ use Rattle.tables.proofs.Cells.{cell_slots}
 use Rattle.chain_links.specs.Links.{linked, released}
 use Rattle.chain_cells.specs.Cells.{cell_at, last_slot}
 use Rattle.chain_cells.specs.Held.{Held}
-use Rattle.chain_cells.specs.Sifting.{Sift, SiftAt, Sifting, Sifts, cells_left, left_at, Chain, OneHeld, Sifted, sift_of}
+use Rattle.chain_cells.specs.Sifting.{at_start, Sift, SiftAt, Sifting, Sifts, cells_left, left_at, Chain, OneHeld, Sifted, sift_of}
 use Rattle.chain_cells.specs.declared.Cursor.{Cursor}
 use Rattle.chain_cells.proofs.Cuts.{cut, linked_after}
 use Rattle.chain_cells.proofs.Laws.{dropped, passed}
@@ -139,13 +139,13 @@ module _ (g : Sift) (e : List ℕ) (m : Cursor) (nz : m.at ≢ 0) (next : ℕ) (
   -- Nothing stands before the cell: the chain's head moves.
   pub sift_drops_first : (e' : List ℕ) → g.test (cell_at e m.at) ≡ true → m.prior ≡ 0 → e' ≡ released e m.at
       → (done left : List Cell) (free : List ℕ) → SiftAt g e m done left free
-      → Sifts g e m e' (record { head = next; prior = 0; at = next; gone = m.gone + 1 })
+      → Sifts g e m e' (record { head = next; prior = m.prior; at = next; gone = m.gone + 1 })
   sift_drops_first e' goes none table≡ done [] free w = absurd (nz w.at_is)
   sift_drops_first e' goes none table≡ (d ∷ ds) (x ∷ xs) free w =
       let before = (cut g.slots g.clock free (d ∷ ds) (x ∷ xs) g.others e w.held).start in
       absurd (last_zero g.slots e x.slot d ds before (sym w.prior_is ∙ none))
   sift_drops_first e' goes none table≡ [] (x ∷ xs) free w =
-      drops e' next 0 [] x xs free w goes (table≡ ∙ ap (released e) w.at_is) (next_is [] x xs free w) refl
+      drops e' next m.prior [] x xs free w goes (table≡ ∙ ap (released e) w.at_is) (next_is [] x xs free w) w.prior_is
 
   -- A cell stands before it, and is linked to what follows.
   pub sift_drops_after : (e' : List ℕ) → g.test (cell_at e m.at) ≡ true → m.prior ≢ 0 → e' ≡ linked (released e m.at) m.prior next
@@ -161,7 +161,7 @@ module _ (g : Sift) (e : List ℕ) (m : Cursor) (nz : m.at ≢ 0) (next : ℕ) (
 
 -- A sieve begins at a chain's head with nothing passed, and has ended where no cell is left.
 module _ (t : Cell → Bool) (g : Chain) (e : List ℕ) where
-  abbrev pub sifting_begins : (first : ℕ) → OneHeld g e first → Sifting (sift_of t g) e (record { head = first; prior = 0; at = first; gone = 0 })
+  abbrev pub sifting_begins : (first : ℕ) → OneHeld g e first → Sifting (sift_of t g) e (at_start first)
   sifting_begins first o = record {
     done = [];
     left = g.cells;

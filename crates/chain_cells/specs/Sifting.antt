@@ -1,5 +1,6 @@
 -- A chain on the way through a sieve: some cells have been passed and stay, some have gone, some are left.
 use Rattle.std.specs.Prelude.{◌≡◌, Bool, List, ◌∷◌, ◌++◌, map, ℕ, ◌+◌, ◌<◌, ◌≤◌, length, drop}
+use Rattle.lists.specs.All.{Exists}
 use Rattle.lists.specs.Lists.{select, reject}
 use Rattle.model.specs.Merge.{release}
 use Rattle.tables.specs.Sound.{chain_from}
@@ -8,6 +9,10 @@ use Rattle.tables.proofs.Cells.{cell_slots}
 use Rattle.chain_cells.specs.Cells.{cell_at, last_slot}
 use Rattle.chain_cells.specs.Held.{Held}
 use Rattle.chain_cells.specs.declared.Cursor.{Cursor}
+
+-- A cursor at a chain's first slot, with nothing passed.
+abbrev pub at_start : ℕ → Cursor
+at_start first = record { head = first; prior = 0; at = first; gone = 0 }
 
 -- What the sieve is to do: with which test, what will be left of the chain and of the free slots, how many cells go, and all that it must not touch.
 pub record Sift : Type 0 where
@@ -58,6 +63,10 @@ pub record Chain : Type 0 where
 pub record OneHeld (g : Chain) (e : List ℕ) (first : ℕ) : Type 0 where
   pub held : Held g.slots g.clock g.free (g.cells ∷ g.others) e
   pub head_is : first ≡ head g.cells
+
+-- The table holds some chain that begins at a slot.
+abbrev pub ChainAt : List ℕ → ℕ → Type 0
+ChainAt e first = Exists (λ g. OneHeld g e first)
 
 -- The cells that pass the test have gone from the chain, each to the front of the free chain; the cursor stands past its last cell.
 pub record Sifted (test : Cell → Bool) (g : Chain) (e : List ℕ) (m : Cursor) : Type 0 where

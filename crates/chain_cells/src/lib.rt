@@ -4,19 +4,33 @@
 ghost use Rattle.std.specs.Prelude.{◌≡◌, ◌≢◌, ◌+◌, ◌<◌};
 ghost use Rattle.lists.specs.All.{Exists};
 ghost use Rattle.chain_cells.specs.Cells.{cell_at};
-ghost use Rattle.chain_cells.specs.Sifting.{Sift, Sifting, Sifts};
+ghost use Rattle.chain_cells.specs.Sifting.{Sift, Sifting, Sifts, at_start};
 ghost use Rattle.chain_cells.specs.Splicing.{Splice, Splicing, Chains, TwoHeld, Spliced, to_do};
 
 use chain_links::{release, set_next};
 use table_slots::{next_of, order_key};
 
-// A place in a chain: its first slot, the slot before the place (0 for none), the slot at it, and how many cells have gone.
+// A place in a chain: its first slot, the slot before the place, the slot at it, and how many cells have gone. Slot 0 is none, as in the tables' links.
 #[derive(Clone, Copy)]
 pub struct Cursor {
     pub head: usize,
     pub prior: usize,
     pub at: usize,
     pub gone: usize,
+}
+
+impl Cursor {
+    // At a chain's first slot, with nothing passed.
+    pub fn at_start(first: usize) -> Cursor
+        ensures { result ≡ at_start first }
+    {
+        Cursor {
+            head: first,
+            prior: 0,
+            at: first,
+            gone: 0,
+        }
+    }
 }
 
 // Two chains on the way to one: what is left of the upper, and a cursor in the lower.
@@ -37,27 +51,27 @@ pub fn sift(e: &mut [u32], m: Cursor, goes: bool) -> Cursor
     let next = next_of(e, m.at);
     if !goes {
         return Cursor {
-            head: m.head,
             prior: m.at,
             at: next,
-            gone: m.gone,
+            ..m
         };
     }
     release(e, m.at);
+    let gone = m.gone + 1;
     if m.prior == 0 {
-        return Cursor {
+        Cursor {
             head: next,
-            prior: 0,
             at: next,
-            gone: m.gone + 1,
-        };
-    }
-    set_next(e, m.prior, next);
-    Cursor {
-        head: m.head,
-        prior: m.prior,
-        at: next,
-        gone: m.gone + 1,
+            gone,
+            ..m
+        }
+    } else {
+        set_next(e, m.prior, next);
+        Cursor {
+            at: next,
+            gone,
+            ..m
+        }
     }
 }
 
@@ -67,11 +81,12 @@ pub fn splice(e: &mut [u32], upper: usize, lower: usize) -> usize
     ensures { (g : Chains) → TwoHeld g e.old upper lower → Spliced g e.new result }
 {
     let mut m = Pair {
-        upper: upper,
+        upper,
         head: lower,
         prior: 0,
         at: lower,
     };
+    // Both chains are followed by their links, which the step rewrites: no index is counted, and no iterator holds them.
     while m.upper != 0 {
         m = splice_step(e, m);
     }
@@ -84,32 +99,30 @@ fn splice_step(e: &mut [u32], m: Pair) -> Pair
     requires upper_nonzero { m.upper ≢ 0 }
     ensures { (g : Splice) → Splicing g e.old m → Splicing g e.new result × (to_do e.new result < to_do e.old m) }
 {
-    if m.at != 0 {
-        if order_key(e, m.at) <= order_key(e, m.upper) {
-            let next = next_of(e, m.at);
-            return Pair {
-                upper: m.upper,
-                head: m.head,
-                prior: m.at,
-                at: next,
-            };
-        }
-    }
-    let next = next_of(e, m.upper);
-    set_next(e, m.upper, m.at);
-    if m.prior == 0 {
+    if m.at != 0 && order_key(e, m.at) <= order_key(e, m.upper) {
+        let next = next_of(e, m.at);
         return Pair {
-            upper: next,
-            head: m.upper,
-            prior: m.upper,
-            at: m.at,
+            prior: m.at,
+            at: next,
+            ..m
         };
     }
-    set_next(e, m.prior, m.upper);
-    Pair {
-        upper: next,
-        head: m.head,
-        prior: m.upper,
-        at: m.at,
+    let placed = m.upper;
+    let upper = next_of(e, placed);
+    set_next(e, placed, m.at);
+    if m.prior == 0 {
+        Pair {
+            upper,
+            head: placed,
+            prior: placed,
+            ..m
+        }
+    } else {
+        set_next(e, m.prior, placed);
+        Pair {
+            upper,
+            prior: placed,
+            ..m
+        }
     }
 }

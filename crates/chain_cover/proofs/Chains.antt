@@ -83,6 +83,14 @@ go_on e h o nz = go (chain_from e h) refl o.chained o.order (chain_short e (leng
 pub shorter : (e : List ℕ) (h : ℕ) → On e h → length (chain_from e (next_of e h)) < length (chain_from e h)
 shorter e h on = rw on.whole (omega arith)
 
+-- What a walk does at a record of an ordered chain: it stands in the table, and its next slot begins one that is shorter.
+module _ (e : List ℕ) (h : ℕ) (o : Ordered e h) (nz : h ≢ 0) where
+  pub walk_in_table : InTable e h
+  walk_in_table = (go_on e h o nz).within
+
+  pub walk_shorter : (next : ℕ) → next ≡ next_of e h → length (chain_from e next) < length (chain_from e h)
+  walk_shorter next is = rw is (shorter e h (go_on e h o nz))
+
 module _ (e : List ℕ) (words : Fits32 e) where
   -- Where the key is past all those of the docket, so is every later one.
   pub all_past : (k least : ℕ) (ss : List ℕ) → (k + 1) * 65536 ≤ least → ascend e least ss ≡ true → All (λ s. k < lo_of e s) ss

@@ -79,14 +79,15 @@ module _ (e : List ℕ) where
     front_at_slots =
         by_cases (eqb h 0) (λ z. rw z (sym (chain_end e h (eqb-true h 0 z)))) (λ s. rw s (sym (go_on e h o (eqb-false h 0 s)).whole))
 
-    -- What the code makes of a head.
-    pub front_at_none : h ≡ 0 → record { first = 0; behind = 0 } ≡ front_at e h
+  -- What the code makes of a head.
+  module _ (h : ℕ) where
+    pub front_at_none : h ≡ 0 → record { first = h; behind = 0 } ≡ front_at e h
     unfolding front_at
-    front_at_none z = rw (eq-eqb h 0 z, z)
+    front_at_none z = rw (eq-eqb h 0 z)
 
-    pub front_at_some : h ≢ 0 → record { first = h; behind = next_of e h } ≡ front_at e h
+    pub front_at_some : (next : ℕ) → h ≢ 0 → next ≡ next_of e h → record { first = h; behind = next } ≡ front_at e h
     unfolding front_at
-    front_at_some nz = rw (ne_eqb h 0 nz)
+    front_at_some next nz is = rw (is, ne_eqb h 0 nz)
 
   module _ (k : ℕ) (f : Front) (o : FrontOrdered e f) where
     behind_left : chain_from e (reach e k f.behind) ≡ reaching e k (chain_from e f.behind)

@@ -10,13 +10,21 @@ use lib.Dec.{eqb, leb, ltb}
 use lib.ListN.{length}
 use Rattle.lists.specs.Lists.{any}
 use Rattle.lists.proofs.Bools.{cond_elim, and_right}
-use Rattle.tables.specs.Slots.{next_of, lo_of}
+use Rattle.std.specs.Borrow.{Bor}
+use Rattle.tables.specs.Slots.{InTable, next_of, lo_of}
 use Rattle.tables.specs.Sound.{chain_from, ascend, order_key}
 use Rattle.tables.specs.Placed.{read_point}
 use Rattle.chain_cover.specs.Walks.{Walkable, Ordered}
-use Rattle.chain_cover.specs.Skips.{drop_while, first_slot, from_bound, beginning, Ahead}
+use Rattle.chain_cover.specs.Skips.{Computes, drop_while, first_slot, from_bound, beginning, Ahead}
 use Rattle.chain_cover.proofs.Chains.{On, chain_is, chain_short, chain_end, ascend_any}
 use Rattle.chain_cover.proofs.Walks.{points_name}
+
+-- What reading a slot has to show to compute a bound.
+pub computes : {bound : List ℕ → ℕ → ℕ} {asks : Bor (List ℕ) → ℕ → Type 0} {tells : Bor (List ℕ) → ℕ → ℕ → Type 0}
+    → ((e : Bor (List ℕ)) (s : ℕ) → InTable e.now s → asks e s)
+    → ((e : Bor (List ℕ)) (s r : ℕ) → InTable e.now s → tells e s r → r ≡ bound e.now s)
+    → Computes bound asks tells
+computes may says = record { may = may; says = says }
 
 -- A chain that ends in the table, in order.
 record Whole (e : List ℕ) (h : ℕ) (ss : List ℕ) : Type 0 where

@@ -1,5 +1,6 @@
 -- What each turn of the walk for a docket, and each way out of it, says of the whole chain.
 use mathlib.Core.Path.{◌≡◌, refl, sym, ◌∙◌}
+use mathlib.Core.Logic.{◌≢◌}
 use mathlib.Core.Bool.{Bool, true, false, ◌&&◌, ◌||◌}
 use mathlib.Core.List.{List, [], ◌∷◌, map}
 use Prim.Native.Nat.{ℕ, ◌<◌, ◌≤◌}
@@ -17,7 +18,8 @@ use Rattle.tables.specs.Slots.{next_of, lo_of, hi_of, date_of}
 use Rattle.tables.specs.Words.{Fits32}
 use Rattle.tables.specs.Sound.{chain_from}
 use Rattle.tables.specs.Placed.{read_point, read_range}
-use Rattle.chain_cover.proofs.Chains.{On, chain_end, past}
+use Rattle.chain_cover.specs.Walks.{Ordered}
+use Rattle.chain_cover.proofs.Chains.{On, go_on, chain_end, past}
 
 -- A range that is not over the docket covers nothing of it; three tests tell whether a range covers.
 module _ (lo hi date k t : ℕ) where
@@ -119,3 +121,15 @@ module _ (e : List ℕ) (h k t : ℕ) where
 
     pub ranges_next : covers (lo_of e h) (hi_of e h) (date_of e h) k t ≡ false → ranges_say e h k t ≡ ranges_say e (next_of e h) k t
     ranges_next q = rw on.whole (slots_next e h (chain_from e (next_of e h)) k t q)
+
+-- The walk stands at a record of an ordered chain, whose ranges say what all do.
+module _ (e : List ℕ) (head at k t : ℕ) (o : Ordered e at) (nz : at ≢ 0) (same : ranges_say e at k t ≡ ranges_say e head k t) where
+  pub walk_covered : covers (lo_of e at) (hi_of e at) (date_of e at) k t ≡ true → true ≡ ranges_say e head k t
+  walk_covered q = sym (ranges_here e at k t (go_on e at o nz) q) ∙ same
+
+  pub walk_past : Fits32 e → k < lo_of e at → false ≡ ranges_say e head k t
+  walk_past words lt = sym (ranges_past e at k t (go_on e at o nz) words lt) ∙ same
+
+  pub walk_on : (next : ℕ) → next ≡ next_of e at → covers (lo_of e at) (hi_of e at) (date_of e at) k t ≡ false
+      → Ordered e next × (ranges_say e next k t ≡ ranges_say e head k t)
+  walk_on next is q = rw is ((go_on e at o nz).rest, sym (ranges_next e at k t (go_on e at o nz) q) ∙ same)

@@ -1,7 +1,7 @@
 // One slot of a chain changed: linked to another slot, wiped and freed, or given a later date and stamp.
 #![tactic(auto)]
 
-ghost use Rattle.std.specs.Prelude.{◌≡◌, ◌<◌, max};
+ghost use Rattle.std.specs.Prelude.{◌≡◌, ◌<◌};
 ghost use Rattle.tables.specs.Slots.{InTable};
 ghost use Rattle.chain_links.specs.Links.{linked, released, later_taken};
 
@@ -15,18 +15,9 @@ pub fn take_later(e: &mut [u32], slot: usize, other: usize)
     requires in_table_2 { InTable e.old other }
     ensures { e.new ≡ later_taken e.old slot other }
 {
-    let date = later(date_of(e, slot), date_of(e, other));
-    let stamp = later(stamp_of(e, slot), stamp_of(e, other));
+    let date = date_of(e, slot).max(date_of(e, other));
+    let stamp = stamp_of(e, slot).max(stamp_of(e, other));
     set_date(e, slot, date, stamp);
-}
-
-fn later(a: u32, b: u32) -> u32
-    ensures { result ≡ max a b }
-{
-    if a < b {
-        return b;
-    }
-    a
 }
 
 // The slot's next becomes another; its kind stays.

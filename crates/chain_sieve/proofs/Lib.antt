@@ -1,3 +1,3 @@
--- What the tests say of a cell, and a chain walked up to the first cell that would go.
-pub mod Tests
+-- What a test of slots has to show, and a chain walked up to the first cell that would go.
+pub mod Decisions
 pub mod Walks

@@ -6,6 +6,7 @@ use mathlib.Core.List.{List, [], ◌∷◌, ◌++◌}
 use Prim.Native.Nat.{ℕ, ◌<◌}
 use native.Mathlib.Omega.{arith}
 use lib.ListN.{length}
+use Rattle.std.specs.Prelude.{None, Some}
 use Rattle.lists.specs.Lists.{select}
 use Rattle.tables.specs.Slots.{InTable, next_of}
 use Rattle.tables.specs.Sound.{chain_from}
@@ -17,12 +18,13 @@ use Rattle.chain_cells.proofs.Cuts.{cut, first_not_zero}
 use Rattle.chain_cells.proofs.Laws.{passed}
 use Rattle.chain_cells.proofs.Reading.{place_in_table, place_length, place_cell, place_next}
 use Rattle.chain_cells.proofs.Sieves.{select-true, select-false}
+use Rattle.chain_sieve.specs.Doomed.{first_of}
 
 -- These cells are passed, and these are left from slot `at` on; the first of all that the test selects is among those left.
 record WalkAt (test : Cell → Bool) (g : Chain) (e : List ℕ) (at : ℕ) (done left : List Cell) : Type 0 where
   held : Held g.slots g.clock g.free ((done ++ left) ∷ g.others) e
   at_is : at ≡ head left
-  selects : head (select test left) ≡ head (select test g.cells)
+  selects : first_of (select test left) ≡ first_of (select test g.cells)
 
 pub record Walking (test : Cell → Bool) (g : Chain) (e : List ℕ) (at : ℕ) : Type 0 where
   done : List Cell
@@ -44,11 +46,11 @@ module _ (test : Cell → Bool) (g : Chain) (e : List ℕ) (at : ℕ) where
   cell_here done x xs w = ap (cell_at e) w.at_is ∙ place_cell g.slots g.clock g.free done x xs g.others e w.held
 
   -- The cell passes the test: it is the first.
-  found : at ≢ 0 → test (cell_at e at) ≡ true → (done left : List Cell) → WalkAt test g e at done left → at ≡ head (select test g.cells)
+  found : at ≢ 0 → test (cell_at e at) ≡ true → (done left : List Cell) → WalkAt test g e at done left → Some at ≡ first_of (select test g.cells)
   found nz goes done [] w = absurd (nz w.at_is)
-  found nz goes done (x ∷ xs) w = w.at_is ∙ ap head (sym (select-true test x xs (ap test (sym (cell_here done x xs w)) ∙ goes))) ∙ w.selects
+  found nz goes done (x ∷ xs) w = ap Some w.at_is ∙ ap first_of (sym (select-true test x xs (ap test (sym (cell_here done x xs w)) ∙ goes))) ∙ w.selects
 
-  pub walking_found : at ≢ 0 → test (cell_at e at) ≡ true → Walking test g e at → at ≡ head (select test g.cells)
+  pub walking_found : at ≢ 0 → test (cell_at e at) ≡ true → Walking test g e at → Some at ≡ first_of (select test g.cells)
   walking_found nz goes w = found nz goes w.done w.left w.here
 
   -- It does not: the walk goes on.
@@ -59,7 +61,7 @@ module _ (test : Cell → Bool) (g : Chain) (e : List ℕ) (at : ℕ) where
       let on : WalkAt test g e (next_of e at) (done ++ x ∷ []) xs = record {
         held = passed g.slots g.clock g.free done x xs g.others e w.held;
         at_is = ap (next_of e) w.at_is ∙ place_next g.slots g.clock g.free done x xs g.others e w.held;
-        selects = ap head (sym (select-false test x xs (ap test (sym (cell_here done x xs w)) ∙ stays))) ∙ w.selects;
+        selects = ap first_of (sym (select-false test x xs (ap test (sym (cell_here done x xs w)) ∙ stays))) ∙ w.selects;
       } in
       (record { done = done ++ x ∷ []; left = xs; here = on }, omega (arith, left-length test g e at done (x ∷ xs) w, left-length test g e (next_of e at) (done ++ x ∷ []) xs on))
 
@@ -67,11 +69,11 @@ module _ (test : Cell → Bool) (g : Chain) (e : List ℕ) (at : ℕ) where
   walking_next nz stays w = goes_on nz stays w.done w.left w.here
 
   -- No cell is left, so that none would go.
-  ends : at ≡ 0 → (done left : List Cell) → WalkAt test g e at done left → 0 ≡ head (select test g.cells)
+  ends : at ≡ 0 → (done left : List Cell) → WalkAt test g e at done left → None ≡ first_of (select test g.cells)
   unfolding select
   ends z done [] w = w.selects
   ends z done (x ∷ xs) w =
       absurd (first_not_zero g.slots g.clock g.free done x.slot x xs g.others e (cut g.slots g.clock g.free done (x ∷ xs) g.others e w.held) (sym w.at_is ∙ z))
 
-  pub walking_ends : at ≡ 0 → Walking test g e at → 0 ≡ head (select test g.cells)
+  pub walking_ends : at ≡ 0 → Walking test g e at → None ≡ first_of (select test g.cells)
   walking_ends z w = ends z w.done w.left w.here

@@ -1,72 +1,77 @@
-// Cells of one kind dropped from a chain: deletes, all of them, points of some dockets, or one range.
+// Cells dropped from a chain where a test of the slot says so; and such tests: of the kind, the docket, coverage, and both dockets of a range.
+// The two walks follow links and count no index; no iterator holds a chain whose links the walk rewrites.
 #![tactic(auto)]
 
 ghost use Rattle.std.specs.Prelude.{◌≡◌};
 ghost use Rattle.lists.specs.All.{Exists};
 ghost use Rattle.lists.specs.Lists.{select};
 ghost use Rattle.tables.specs.Slots.{InTable};
-ghost use Rattle.tables.specs.Placed.{head};
 ghost use Rattle.chain_cells.specs.Cells.{cell_at};
-ghost use Rattle.chain_cells.specs.Sifting.{Chain, OneHeld, Sifted};
-ghost use Rattle.chain_sieve.specs.Doomed.{doomed};
+ghost use Rattle.chain_cells.specs.Sifting.{Chain, ChainAt, OneHeld, Sifted};
+ghost use Rattle.chain_sieve.specs.Doomed.{Decides, first_of, is_delete, has_docket, has_span, is_covered_by};
 
 use chain_cells::{Cursor, sift};
 use chain_cover::covers;
-use table_slots::{DELETE, hi_of, kind_of, lo_of, next_of, stamp_of};
+use table_slots::{Kind, has_kind, hi_of, lo_of, next_of, stamp_of};
 
-// Which cells go: the deletes among points, all cells, the point of a docket, the points that the delete from lo to hi with a date covers, the range from lo to hi.
-#[derive(Clone, Copy)]
-pub enum Doomed {
-    Deletes,
-    All,
-    Docket(u32),
-    Covered(u32, u32, u32),
-    Range(u32, u32),
-}
-
-// The chain from first without the cells that go.
-pub fn sieve(e: &mut [u32], first: usize, which: Doomed) -> Cursor
-    requires { Exists (λ g. OneHeld g e.old first) }
-    ensures { (g : Chain) → OneHeld g e.old first → Sifted (doomed which) g e.new result }
+// The chain from first without the cells that go, as the test of their slots says.
+pub fn sieve<F: Fn(&[u32], usize) -> bool>(e: &mut [u32], first: usize, goes: F) -> Cursor
+    requires held { ChainAt e.old first }
+    requires decides { Exists (λ test. Decides test (F.pre goes) (F.post goes)) }
+    ensures { (g : Chain) (test : _) → Decides test (F.pre goes) (F.post goes) → OneHeld g e.old first → Sifted test g e.new result }
 {
-    let mut m = Cursor {
-        head: first,
-        prior: 0,
-        at: first,
-        gone: 0,
-    };
+    let mut m = Cursor::at_start(first);
     while m.at != 0 {
-        let goes = is_doomed(e, m.at, which);
-        m = sift(e, m, goes);
+        let doomed = goes(e, m.at);
+        m = sift(e, m, doomed);
     }
     m
 }
 
-// The first slot of a cell that would go, or 0.
-pub fn first_doomed(e: &[u32], first: usize, which: Doomed) -> usize
-    requires { Exists (λ g. OneHeld g e.now first) }
-    ensures { (g : Chain) → OneHeld g e.now first → result ≡ head (select (doomed which) g.cells) }
+// The first slot of a cell that would go.
+pub fn first_doomed<F: Fn(&[u32], usize) -> bool>(e: &[u32], first: usize, goes: F) -> Option<usize>
+    requires held { ChainAt e.now first }
+    requires decides { Exists (λ test. Decides test (F.pre goes) (F.post goes)) }
+    ensures { (g : Chain) (test : _) → Decides test (F.pre goes) (F.post goes) → OneHeld g e.now first → result ≡ first_of (select test g.cells) }
 {
     let mut at = first;
     while at != 0 {
-        if is_doomed(e, at, which) {
-            return at;
+        if goes(e, at) {
+            return Some(at);
         }
         at = next_of(e, at);
     }
-    0
+    None
 }
 
-// Whether the cell at a slot goes.
-fn is_doomed(e: &[u32], slot: usize, which: Doomed) -> bool
+// A delete among points.
+pub fn is_delete(e: &[u32], slot: usize) -> bool
     requires { InTable e.now slot }
-    ensures { result ≡ doomed which (cell_at e.now slot) }
+    ensures { result ≡ is_delete (cell_at e.now slot) }
 {
-    match which {
-        Doomed::Deletes => kind_of(e, slot) == DELETE,
-        Doomed::All => true,
-        Doomed::Docket(docket) => lo_of(e, slot) == docket,
-        Doomed::Covered(lo, hi, date) => covers(lo, hi, date, lo_of(e, slot), stamp_of(e, slot)),
-        Doomed::Range(lo, hi) => (lo_of(e, slot) == lo) & (hi_of(e, slot) == hi),
-    }
+    has_kind(e, slot, Kind::Delete)
+}
+
+// A point of the docket.
+pub fn has_docket(e: &[u32], slot: usize, docket: u32) -> bool
+    requires { InTable e.now slot }
+    ensures { result ≡ has_docket docket (cell_at e.now slot) }
+{
+    lo_of(e, slot) == docket
+}
+
+// A point that the delete from lo to hi with the date covers.
+pub fn is_covered_by(e: &[u32], slot: usize, lo: u32, hi: u32, date: u32) -> bool
+    requires { InTable e.now slot }
+    ensures { result ≡ is_covered_by lo hi date (cell_at e.now slot) }
+{
+    covers(lo, hi, date, lo_of(e, slot), stamp_of(e, slot))
+}
+
+// The range from lo to hi.
+pub fn has_span(e: &[u32], slot: usize, lo: u32, hi: u32) -> bool
+    requires { InTable e.now slot }
+    ensures { result ≡ has_span lo hi (cell_at e.now slot) }
+{
+    (lo_of(e, slot) == lo) & (hi_of(e, slot) == hi)
 }

@@ -6,9 +6,9 @@ ghost use Rattle.tables.specs.Slots.{slots_of};
 ghost use Rattle.tables.specs.Rows.{level_length, settings_of};
 ghost use Rattle.check_walk.specs.Slots.{Entries};
 ghost use Rattle.check_walk.specs.Walks.{unmarked};
-ghost use Rattle.check_chains.specs.Levels.{levels_checked, chains_checked};
+ghost use Rattle.check_chains.specs.Levels.{levels_checked, words_fit, chains_checked};
 
-use check_forms::Class;
+use check_forms::Free;
 use check_level::level;
 use check_walk::walk;
 use table_levels::{deepest_of, level_at};
@@ -23,18 +23,23 @@ fn levels_fit(e: &[u32], l: &[u32], free: usize, marks: &mut [u8]) -> bool
     requires marks_bound { free + unmarked (slots_of e.now) marks.old ≤ slots_of e.now }
     ensures { record { answer = result; marks = marks.new } ≡ levels_checked e.now l.now ((settings_of l.now).deepest + 1) 0 marks.old free }
 {
-    let deepest = deepest_of(l);
     let mut total = free;
-    let mut i = 0;
-    while i <= deepest {
-        let here = level(e, l, i, marks);
-        if !here.fits {
+    for i in 0..=deepest_of(l) {
+        let Some(count) = level(e, l, i, marks) else {
             return false;
-        }
-        total += here.count;
-        i += 1;
+        };
+        total += count;
     }
     total == slot_count(e)
+}
+
+// The words beside the chains. Without owed the deepest level can hold no delete.
+fn words_fit(e: &[u32], l: &[u32]) -> bool
+    requires entries { Entries e.now }
+    requires l_len { length l.now ≡ level_length (settings_of l.now).deepest }
+    ensures { result ≡ words_fit e.now l.now }
+{
+    is_top_blank(e) && level_at(l, deepest_of(l)).owed == 0
 }
 
 // All chains of the tables, over marks that are all blank.
@@ -45,17 +50,11 @@ pub fn chains_fit(e: &[u32], l: &[u32], marks: &mut [u8]) -> bool
     requires l_len { length l.now ≡ level_length (settings_of l.now).deepest }
     ensures { record { answer = result; marks = marks.new } ≡ chains_checked e.now l.now marks.old }
 {
-    if !is_top_blank(e) {
+    if !words_fit(e, l) {
         return false;
     }
-    let deepest = level_at(l, deepest_of(l));
-    // Without owed the deepest level can hold no delete.
-    if deepest.owed != 0 {
-        return false;
+    match walk::<Free>(e, first_free(e), 0, marks) {
+        Some(free) => levels_fit(e, l, free, marks),
+        None => false,
     }
-    let free = walk(Class::Free, e, first_free(e), 0, marks);
-    if !free.fits {
-        return false;
-    }
-    levels_fit(e, l, free.count, marks)
 }

@@ -6,7 +6,7 @@ ghost use Rattle.tables.specs.Slots.{InTable};
 ghost use Rattle.tables.specs.Sound.{is_free, is_range};
 
 use table_slots::{
-    FREE, RANGE, date_of, hi_of, is_untallied, kind_of, lo_of, price_of, span_of, stamp_of,
+    Kind, date_of, has_kind, hi_of, is_untallied, lo_of, price_of, span_of, stamp_of,
 };
 
 // A free slot is zero but for its next, so that nothing of a wiped record is left.
@@ -14,7 +14,7 @@ pub fn is_free(e: &[u32], s: usize) -> bool
     requires { InTable e.now s }
     ensures { result ≡ is_free e.now s }
 {
-    (kind_of(e, s) == FREE) & (span_of(e, s) == 0) & is_untallied(e, s) & (stamp_of(e, s) == 0)
+    has_kind(e, s, Kind::Free) & (span_of(e, s) == 0) & is_untallied(e, s) & (stamp_of(e, s) == 0)
 }
 
 // A range delete with a date from 1 to its stamp, and without a price.
@@ -24,5 +24,5 @@ pub fn is_range(e: &[u32], s: usize) -> bool
 {
     let date = date_of(e, s);
     let dated = (1 <= date) & (date <= stamp_of(e, s));
-    (lo_of(e, s) <= hi_of(e, s)) & ((kind_of(e, s) == RANGE) & dated & (price_of(e, s) == 0))
+    (lo_of(e, s) <= hi_of(e, s)) & (has_kind(e, s, Kind::Range) & dated & (price_of(e, s) == 0))
 }

@@ -1,52 +1,62 @@
 -- A level that fits: what it asks of its two chains and its numbers, and what it leaves.
 use mathlib.Core.Path.{◌≡◌, refl, sym, ◌∙◌}
-use mathlib.Core.Bool.{true, ◌&&◌}
+use mathlib.Core.Bool.{Bool, true, false, ◌&&◌}
 use mathlib.Core.List.{List, ◌++◌}
-use Prim.Native.Nat.{ℕ}
+use Prim.Native.Nat.{ℕ, ◌+◌}
 use lib.ListN.{length, length-append}
-use Rattle.lists.proofs.Bools.{cond_and, and_left, and_right, and_ap}
+use Rattle.std.specs.Prelude.{Option, is_some}
+use Rattle.std.specs.Bool.{then_some}
+use Rattle.lists.proofs.Bools.{and_left, and_right, and_ap}
 use Rattle.tables.specs.Rows.{level_row}
 use Rattle.tables.specs.Sound.{point_chain, range_chain}
-use Rattle.check_forms.specs.declared.Class.TheVariants.{Points, Ranges}
-use Rattle.check_walk.specs.declared.Walked.{Walked}
-use Rattle.check_walk.specs.Walks.{Marked, walked}
+use Rattle.check_forms.specs.Forms.{point_fits, range_fits}
+use Rattle.check_walk.specs.Walks.{Marked, stopped, walked}
 use Rattle.check_walk.proofs.Each.{mark_each, mark_each_append}
-use Rattle.check_walk.proofs.Passed.{passed, walk_passes}
-use Rattle.check_level.specs.Levels.{numbers_fit, leveled}
+use Rattle.check_walk.proofs.Passed.{passed, walk_passes, after_asks}
+use Rattle.check_level.specs.Levels.{numbers_fit, numbered, ranged, leveled}
 
 -- The slots of a level, points first.
 abbrev pub level_slots : List ℕ → List ℕ → ℕ → List ℕ
 level_slots e l i = point_chain e l i ++ range_chain e l i
 
+some_if : {A : Type 0} (b : Bool) (x : A) → is_some (then_some b x) ≡ b
+some_if true x = refl
+some_if false x = refl
+
 module _ (e l : List ℕ) (i : ℕ) (m : List ℕ) where
-  abbrev points : Marked Walked
-  points = walked Points e (level_row l i).owed 0 0 m (point_chain e l i)
+  abbrev points : Marked (Option ℕ)
+  points = walked point_fits e (level_row l i).owed 0 0 m (point_chain e l i)
 
   -- The ranges after points that fit.
-  abbrev ranges : Marked Walked
-  ranges = walked Ranges e (level_row l i).owed 0 0 (mark_each m (point_chain e l i)) (range_chain e l i)
+  abbrev ranges : Marked (Option ℕ)
+  ranges = walked range_fits e (level_row l i).owed 0 0 (mark_each m (point_chain e l i)) (range_chain e l i)
 
   -- The ranges and the numbers are asked only where what stands before them fits.
-  pub level_asks : (leveled e l i m).answer.fits ≡ points.answer.fits && (ranges.answer.fits && numbers_fit e l i (length (level_slots e l i)))
+  pub level_asks : is_some (leveled e l i m).answer
+      ≡ is_some points.answer && (is_some ranges.answer && numbers_fit e l i (length (level_slots e l i)))
   unfolding leveled
   level_asks =
-      cond_and (λ (w : Marked Walked). w.answer.fits) points.answer.fits _ _ refl
-      ∙ and_ap points.answer.fits (λ t.
-      rw (walk_passes Points e (level_row l i).owed m (point_chain e l i) t)
-      (cond_and (λ (w : Marked Walked). w.answer.fits) ranges.answer.fits _ _ refl
-      ∙ and_ap ranges.answer.fits (λ u.
-      rw (walk_passes Ranges e (level_row l i).owed (mark_each m (point_chain e l i)) (range_chain e l i) u, length-append))))
+      let count = length (point_chain e l i) + length (range_chain e l i) in
+      let sum : length (level_slots e l i) ≡ count = length-append (point_chain e l i) (range_chain e l i) in
+      after_asks says points (ranged e l i) stopped (λ x. refl) (walk_passes point_fits e (level_row l i).owed m (point_chain e l i))
+      ∙ and_ap (is_some points.answer) (λ t.
+      after_asks says ranges (λ r. numbered e l i (length (point_chain e l i) + r)) stopped (λ x. refl)
+      (walk_passes range_fits e (level_row l i).owed (mark_each m (point_chain e l i)) (range_chain e l i))
+      ∙ and_ap (is_some ranges.answer) (λ u. rw sum (some_if (numbers_fit e l i count) count)))
+    where
+      says : Marked (Option ℕ) → Bool
+      says w = is_some w.answer
 
-  pub level_passes : (leveled e l i m).answer.fits ≡ true → leveled e l i m ≡ passed m (level_slots e l i)
+  pub level_passes : is_some (leveled e l i m).answer ≡ true → leveled e l i m ≡ passed m (level_slots e l i)
   unfolding leveled
   level_passes q =
       let n = numbers_fit e l i (length (level_slots e l i)) in
       let both = sym level_asks ∙ q in
-      let rest = and_right points.answer.fits (ranges.answer.fits && n) both in
+      let rest = and_right (is_some points.answer) (is_some ranges.answer && n) both in
       rw (
-        walk_passes Points e (level_row l i).owed m (point_chain e l i) (and_left points.answer.fits (ranges.answer.fits && n) both),
-        walk_passes Ranges e (level_row l i).owed (mark_each m (point_chain e l i)) (range_chain e l i) (and_left ranges.answer.fits n rest),
+        walk_passes point_fits e (level_row l i).owed m (point_chain e l i) (and_left (is_some points.answer) (is_some ranges.answer && n) both),
+        walk_passes range_fits e (level_row l i).owed (mark_each m (point_chain e l i)) (range_chain e l i) (and_left (is_some ranges.answer) n rest),
         ← length-append (point_chain e l i) (range_chain e l i),
-        and_right ranges.answer.fits n rest,
+        and_right (is_some ranges.answer) n rest,
         mark_each_append,
       )

@@ -1,29 +1,15 @@
--- Refusals 1 to 4, case by case, and what is known where none is met.
+-- How large refusals 1 to 4 are, and what is known where none is met.
 use mathlib.Core.Path.{◌≡◌, refl, sym, ◌∙◌}
-use mathlib.Core.Logic.{◌≢◌}
 use mathlib.Core.Bool.{Bool, true, false, cond, true≢false}
 use mathlib.Core.List.{List}
-use Prim.Native.Nat.{ℕ, ◌<◌, ◌≤◌}
+use Prim.Native.Nat.{ℕ, ◌≤◌}
 use native.Mathlib.Omega.{arith}
 use lib.Dec.{eqb, ltb}
-use borrow.Author.Tests.{eq-eqb, ne_eqb, lt-ltb, le-ltb, eqb-true, ltb-false}
+use borrow.Author.Tests.{eq-eqb, le-ltb, eqb-true, ltb-false}
 use Rattle.lists.proofs.Bools.{or_false_left, or_false_right, or_false}
 use Rattle.tables.specs.Sound.{table_refusal}
 use Rattle.tables.proofs.Numbers.{tables_refuse_low}
 use Rattle.check_refusal.specs.Dockets.{bad_dockets, docket_refusal}
-
-module _ (e l : List ℕ) (lo hi r : ℕ) (checked : r ≡ table_refusal e l) where
-  pub refused_tables : r ≢ 0 → r ≡ docket_refusal e l lo hi
-  refused_tables n = rw (← checked, ne_eqb r 0 n)
-
-  pub refused_high : r ≡ 0 → 65535 < hi → 4 ≡ docket_refusal e l lo hi
-  refused_high z h = rw (← checked, eq-eqb r 0 z, lt-ltb 65535 hi h)
-
-  pub refused_order : r ≡ 0 → hi ≤ 65535 → hi < lo → 4 ≡ docket_refusal e l lo hi
-  refused_order z h o = rw (← checked, eq-eqb r 0 z, le-ltb 65535 hi h, lt-ltb hi lo o)
-
-  pub allowed : r ≡ 0 → hi ≤ 65535 → lo ≤ hi → 0 ≡ docket_refusal e l lo hi
-  allowed z h o = rw (← checked, eq-eqb r 0 z, le-ltb 65535 hi h, le-ltb hi lo o)
 
 -- They are 1 to 4.
 pub dockets_refuse_low : (e l : List ℕ) (lo hi : ℕ) → docket_refusal e l lo hi ≤ 4

@@ -23,10 +23,9 @@ use Rattle.tables.specs.Slots.{clock_of}
 use Rattle.tables.specs.Rows.{settings_of, level_row, no_row}
 use Rattle.tables.specs.Sound.{table_refusal}
 use Rattle.check_refusal.specs.Dockets.{docket_refusal}
-use Rattle.wake.specs.declared.Answer.TheVariants.{Never, At}
+use Rattle.std.proofs.Common.{None, Some, Ok}
 use Rattle.wake.specs.Wake.{owed_of}
-use Rattle.lookup.specs.declared.Answer.TheVariants.{Found}
-use Rattle.lookup.specs.Lookup.{answered, lookup_tables, numbers}
+use Rattle.lookup.specs.Lookup.{Found, answered, lookup_tables, numbers}
 use Rattle.lookup.specs.Counts.{lookup_counts, without_price, count_numbers}
 use Rattle.lookup.proofs.Numbers as lookups
 use Rattle.lookup.proofs.Counts as counts
@@ -203,7 +202,7 @@ module _ (w : Tables) (c : Call Tally) (fits : Fits32 w.entries) (ok : (call_tab
     sleeps_answers = sleep.sleeps_answers w c fits ok ts up early
 
   -- "a tick at it merges at least one level, if that clock fits 32 bits": a clock of the code does.
-  pub wakes : (m : ℕ) → wake_of (call_tables w c).tables ≡ At m → Wakes m (call_tables w c).tables
+  pub wakes : (m : ℕ) → wake_of (call_tables w c).tables ≡ Ok (Some m) → Wakes m (call_tables w c).tables
   wakes = sleep.wakes w c fits ok
 
 -- Not without an accepted call before: sound tables on which a tick merges though no clock is told.
@@ -217,10 +216,10 @@ quiet_merges = sleep.quiet_merges
 
 -- "the smallest owed + limit over levels 0 to L−1 with owed not 0 …, or 'none'", by the rows of any sound tables.
 module _ (w : Tables) (sound : table_refusal w.entries w.levels ≡ 0) where
-  pub wake_smallest : (m : ℕ) → wake_of w ≡ At m → Owes (settings_of w.levels) (owed_of w.levels) (settings_of w.levels).deepest m
+  pub wake_smallest : (m : ℕ) → wake_of w ≡ Ok (Some m) → Owes (settings_of w.levels) (owed_of w.levels) (settings_of w.levels).deepest m
   wake_smallest = sleep.wake_smallest w sound
 
-  pub wake_never : wake_of w ≡ Never → (i : ℕ) → i < (settings_of w.levels).deepest → owed_of w.levels i ≡ 0
+  pub wake_never : wake_of w ≡ Ok None → (i : ℕ) → i < (settings_of w.levels).deepest → owed_of w.levels i ≡ 0
   wake_never = sleep.wake_never w sound
 
 -- "which slot a record occupies, and with it the order of the free chain; neither may hang on a tally", and no other word or answer does: from tables of any

@@ -44,14 +44,12 @@ use Rattle.tables.proofs.Whole.{whole}
 use Rattle.tables.proofs.SlotLists.{all_there, count_one, count_two}
 use Rattle.tables.proofs.ReadPoints.{slots_points, own_levels, own_back, kind_put, put_kinds, find_own}
 use Rattle.tables.proofs.FormedSound.{sound_words}
-use Rattle.lookup.specs.Lookup.{answered, lookup_tables}
-use Rattle.lookup.specs.declared.Answer.{Answer}
-use Rattle.lookup.specs.declared.Answer.TheVariants.{Refused, Absent, Found}
+use Rattle.lookup.specs.Lookup.{Answer, Refused, Absent, Found, answered, lookup_tables}
 use Rattle.call_tables.specs.Calls.{Tables, call_tables}
 use Rattle.call_tables.proofs.Refusals.{refused_exactly}
 use Rattle.demands.specs.Full.{IsSlot, HoldsLive, SlotsLive}
 
-finds : Answer → Bool
+finds : Answer Tally → Bool
 finds (Refused n) = false
 finds Absent = false
 finds (Found tally stamp) = true

@@ -23,7 +23,7 @@ use Rattle.model.proofs.Levels.{uncovered}
 use Rattle.model.proofs.LookupSteps.{after_op}
 use Rattle.model.proofs.PlainMaps.{keys, get-changed, distinct_step}
 use Rattle.check_refusal.proofs.Refusals.{allowed_high}
-use Rattle.lookup.specs.declared.Answer.TheVariants as answer
+use Rattle.lookup.specs.Lookup as answer
 use Rattle.lookup.specs.Lookup.{answered, lookup_tables, numbers}
 use Rattle.lookup.proofs.Numbers.{refused_exactly}
 use Rattle.call_tables.specs.Calls.{made_tables, tables_after, answers_tables}

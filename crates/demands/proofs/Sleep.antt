@@ -20,8 +20,7 @@ use Rattle.model.specs.Steps.{merge_state, merge_level, overfull, overdue, due, 
 use Rattle.model.specs.Calls.{Call, Answer, Outcome, refusing, count_written, timed, prepared, finish, step}
 use Rattle.model.proofs.StepView.{let_in_time, Accepted, accepted_ends, accepted_clock}
 use Rattle.model.proofs.Demands as model
-use Rattle.model_wake.specs.declared.Wake.{Wake}
-use Rattle.model_wake.specs.declared.Wake.TheVariants as clock
+use Rattle.std.proofs.Common.{Option, None, Some, Result, Ok, Err}
 use Rattle.model_wake.specs.Wake.{next_wake, Owes, tick_at, last_clock, no_change}
 use Rattle.model_wake.specs.Wake as waking
 use Rattle.model_wake.proofs.Smallest.{next_same, at_smallest, never_owes}
@@ -40,9 +39,7 @@ use Rattle.tables.proofs.Clocked as tables
 use Rattle.tables.proofs.FormedLevels.{empty_formed}
 use Rattle.tables.proofs.FormedSound.{words_sound, sound_words}
 use Rattle.tables.proofs.FormedSteps.{timed_formed}
-use Rattle.wake.specs.declared.Answer as answer
-use Rattle.wake.specs.declared.Answer.TheVariants.{Refused, Never, At}
-use Rattle.wake.specs.Wake.{answered, owed_of, wake_tables}
+use Rattle.wake.specs.Wake.{owed_of, wake_tables}
 use Rattle.call_tables.specs.Calls.{Tables, Called, lent, words, wrote, call_tables, run_tables, answers_tables}
 use Rattle.call_tables.proofs.Runs.{called_words, run-words, answers-words, answers_sound, answers_unsound}
 use Rattle.demands.specs.Hidden.{SameBut}
@@ -51,34 +48,29 @@ use Rattle.demands.proofs.SameTables.{OnlyTallies, refusal_same}
 use Rattle.demands.proofs.Numbers as accepted
 
 -- The clock or 'none' that an answer tells.
-told : answer.Answer → Wake
-told (Refused n) = clock.Never
-told Never = clock.Never
-told (At m) = clock.At m
+told : Result (Option ℕ) ℕ → Option ℕ
+told (Err n) = None
+told (Ok x) = x
 
-told_back : (x : Wake) → told (answered x) ≡ x
-unfolding told
-told_back clock.Never = refl
-told_back (clock.At m) = refl
-
-before_told : (t : ℕ) (x : Wake) → Before t (answered x) → waking.Before t x
-before_told t clock.Never b = b
-before_told t (clock.At m) b = b
+before_told : (t : ℕ) (x : Option ℕ) → Before t (Ok x) → waking.Before t x
+before_told t None b = b
+before_told t (Some m) b = b
 
 -- "the smallest owed + limit …, or 'none'", by the rows of sound tables.
 module _ (w : Tables) (sound : table_refusal w.entries w.levels ≡ 0) where
-  asked : wake_of w ≡ answered (next_wake (settings_of w.levels) (owed_of w.levels))
+  asked : wake_of w ≡ Ok (next_wake (settings_of w.levels) (owed_of w.levels))
   unfolding wake_tables
   asked = rw sound
 
   tells : next_wake (settings_of w.levels) (owed_of w.levels) ≡ told (wake_of w)
-  tells = sym (ap told asked ∙ told_back (next_wake (settings_of w.levels) (owed_of w.levels)))
+  unfolding told
+  tells = sym (ap told asked)
 
-  pub wake_smallest : (m : ℕ) → wake_of w ≡ At m → Owes (settings_of w.levels) (owed_of w.levels) (settings_of w.levels).deepest m
+  pub wake_smallest : (m : ℕ) → wake_of w ≡ Ok (Some m) → Owes (settings_of w.levels) (owed_of w.levels) (settings_of w.levels).deepest m
   unfolding told
   wake_smallest m e = at_smallest (settings_of w.levels) (owed_of w.levels) (tells ∙ ap told e)
 
-  pub wake_never : wake_of w ≡ Never → (i : ℕ) → i < (settings_of w.levels).deepest → owed_of w.levels i ≡ 0
+  pub wake_never : wake_of w ≡ Ok None → (i : ℕ) → i < (settings_of w.levels).deepest → owed_of w.levels i ≡ 0
   unfolding told
   wake_never e = never_owes (settings_of w.levels) (owed_of w.levels) (tells ∙ ap told e)
 
@@ -87,10 +79,10 @@ module _ (n : ℕ) (p : State ℕ Tally) (f : Formed n p) where
   clock_is : clock_of (entry_words n p) ≡ p.clock
   clock_is = ap (λ (r : Slot). r.span) (formed_holds n p f).first
 
-  wake_is : wake_of (words n p) ≡ answered (waking.wake p)
+  wake_is : wake_of (words n p) ≡ Ok (waking.wake p)
   wake_is =
       asked (words n p) (words_sound n p f)
-      ∙ ap answered (ap (λ s. next_wake s (owed_of (level_words p))) (settings_back p)
+      ∙ ap (λ (x : Option ℕ). Ok x) (ap (λ s. next_wake s (owed_of (level_words p))) (settings_back p)
       ∙ next_same p.settings (owed_of (level_words p)) (λ i. (level i p).owed) (λ i h. ap (λ (r : Row). r.owed) (level_row_at p i (omega (arith, f.size)))))
 
   before_is : (t : ℕ) → Before t (wake_of (words n p)) → waking.Before t (waking.wake p)
@@ -141,10 +133,10 @@ module _ (n : ℕ) (p : State ℕ Tally) (f : Formed n p) (settled : states.Sett
   formed_at : (i : ℕ) → LevelFormed p.clock (level i p)
   formed_at i = all_get (LevelFormed p.clock) p.levels i empty f.levels_ok (empty_formed p.clock)
 
-  wakes_words : (m : ℕ) → wake_of (words n p) ≡ At m → Wakes m (words n p)
+  wakes_words : (m : ℕ) → wake_of (words n p) ≡ Ok (Some m) → Wakes m (words n p)
   unfolding told
   wakes_words m e =
-      let at : waking.wake p ≡ clock.At m = sym (told_back (waking.wake p)) ∙ ap told (sym (wake_is n p f) ∙ e) in
+      let at : waking.wake p ≡ Some m = ap told (sym (wake_is n p f) ∙ e) in
       let some : 0 < p.settings.buffer = omega (arith, (allowed_bounds p.settings f.settings_ok).buffer_low) in
       let w = states.wakes p settled some (λ i h o z. o ((formed_at i).owed_empty z)) m at in
       let called = called_words n p (tick_at m) f in
@@ -198,7 +190,7 @@ module _ (w : Tables) (c : Call Tally) (fits : Fits32 w.entries) (ok : (call_tab
       → answers_tables (call_tables w c).tables (map tick_at ts) ≡ map (λ (t : ℕ). no_change) ts
   sleeps_answers = rw left (answers_sleep n after formed at_rest begun)
 
-  pub wakes : (m : ℕ) → wake_of (call_tables w c).tables ≡ At m → Wakes m (call_tables w c).tables
+  pub wakes : (m : ℕ) → wake_of (call_tables w c).tables ≡ Ok (Some m) → Wakes m (call_tables w c).tables
   wakes = rw left (wakes_words n after formed at_rest)
 
 -- "a store without writes": on tables that are not sound every call is refused.

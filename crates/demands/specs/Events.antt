@@ -2,8 +2,7 @@
 use Rattle.std.specs.Prelude.{List, [], ◌∷◌, ℕ}
 use Rattle.model.specs.declared.Tally.{Tally}
 use Rattle.model.specs.Calls.{Call, Answer}
-use Rattle.lookup.specs.declared.Answer as lookup
-use Rattle.lookup.specs.declared.CountAnswer.{CountAnswer}
+use Rattle.lookup.specs.Lookup as lookup
 use Rattle.lookup.specs.Lookup.{lookup_tables}
 use Rattle.lookup.specs.Counts.{lookup_counts}
 use Rattle.scan.specs.declared.Row.{Row}
@@ -22,9 +21,9 @@ pub data Event : Type 0 where
 -- What each gives.
 pub data Reply : Type 0 where
   call_gives : Answer → Reply
-  lookup_gives : lookup.Answer → Reply
+  lookup_gives : lookup.Answer Tally → Reply
   scan_gives : Outcome Row → Reply
-  lookup_count_gives : CountAnswer → Reply
+  lookup_count_gives : lookup.Answer ℕ → Reply
   scan_counts_gives : Outcome CountRow → Reply
 
 abbrev pub reply : Tables → Event → Reply

@@ -1,8 +1,7 @@
 -- Demand 1 on the tables, when a put is refused 7: every slot holds a different live docket, and the put's is not among them.
 use Rattle.std.specs.Prelude.{◌≡◌, ◌≢◌, ℕ, ◌≤◌}
 use Rattle.tables.specs.Slots.{slots_of, kind_of, lo_of, tally_of, stamp_of}
-use Rattle.lookup.specs.Lookup.{lookup_tables}
-use Rattle.lookup.specs.declared.Answer.TheVariants.{Found}
+use Rattle.lookup.specs.Lookup.{Found, lookup_tables}
 use Rattle.call_tables.specs.Calls.{Tables}
 
 -- "every slot from 1 to N"

@@ -14,14 +14,15 @@ ghost use Rattle.scan.specs.Scan.{scan_tables, scan_counts_tables};
 ghost use Rattle.call_op.specs.Ops.{op_of};
 ghost use Rattle.c_packing.specs.Packed.{packed, packed_lookup, packed_call, packed_wake, packed_scan};
 
-use c_packing::{pack, pack_lookup, pack_scan, pack_wake, price_of};
+use c_packing::{pack, pack_lookup, pack_scanned, pack_wake, price_of};
 use call_any::call;
 use call_op::Op;
-use check_refusal::table_refusal;
+use check_refusal::check_tables;
 use lookup::{lookup, lookup_count, without_price};
 use make::make;
 use model::Tally;
-use scan::{CountRow, Row, scan, scan_counts};
+use refusals::{numbered, refusal_number};
+use scan::{CountRow, Row, scan};
 use wake::wake;
 
 // The number of the refusal that the tables meet, 1 to 3, or 0 where they are sound.
@@ -29,7 +30,7 @@ use wake::wake;
 pub extern "C" fn guontrem_check(entries: &[u32], levels: &[u32]) -> u32
     ensures { result ≡ table_refusal entries.now levels.now }
 {
-    table_refusal(entries, levels)
+    refusal_number(check_tables(entries, levels))
 }
 
 // Makes a store; answers 0, or the number of the refusal with both tables as they were.
@@ -45,7 +46,7 @@ pub extern "C" fn guontrem_make(
     ensures { record { refusal = result; entries = entries.new; levels = levels.new } ≡
         make_tables entries.old levels.old (record { deepest = deepest; ratio = ratio; buffer = buffer; term = term }) }
 {
-    make(entries, levels, deepest, ratio, buffer, term)
+    refusal_number(make(entries, levels, deepest, ratio, buffer, term))
 }
 
 // Count and stamp in the lower and the upper half; where the upper half is 0, the lower is the refusal, or 0 for absent. The price goes to a place
@@ -59,7 +60,7 @@ pub extern "C" fn guontrem_lookup(
 ) -> u64
     ensures { record { number = result; price = price.new } ≡ packed_lookup (lookup_tables entries.now levels.now docket) }
 {
-    let answer = lookup(entries, levels, docket);
+    let answer = numbered(lookup(entries, levels, docket));
     *price = price_of(answer);
     pack_lookup(without_price(answer))
 }
@@ -69,7 +70,7 @@ pub extern "C" fn guontrem_lookup(
 pub extern "C" fn guontrem_lookup_count(entries: &[u32], levels: &[u32], docket: u32) -> u64
     ensures { result ≡ packed (lookup_counts entries.now levels.now docket) }
 {
-    pack_lookup(lookup_count(entries, levels, docket))
+    pack_lookup(numbered(lookup_count(entries, levels, docket)))
 }
 
 // Puts a docket's count and price.
@@ -89,13 +90,7 @@ pub extern "C" fn guontrem_put(
         entries,
         levels,
         clock,
-        Op::Put(
-            docket,
-            Tally {
-                count: count,
-                price: price,
-            },
-        ),
+        Op::Put(docket, Tally { count, price }),
     )
 }
 
@@ -167,7 +162,7 @@ pub extern "C" fn guontrem_tick(entries: &mut [u32], levels: &mut [u32], clock: 
 pub extern "C" fn guontrem_wake(entries: &[u32], levels: &[u32]) -> u64
     ensures { result ≡ packed_wake (wake_tables entries.now levels.now) }
 {
-    pack_wake(wake(entries, levels))
+    pack_wake(numbered(wake(entries, levels)))
 }
 
 // A timed call, its answer as one number.
@@ -175,8 +170,10 @@ fn call_packed(entries: &mut [u32], levels: &mut [u32], clock: u32, op: Op) -> u
     ensures { record { tables = lent entries.new levels.new; number = result } ≡
         packed_call (call_tables (lent entries.old levels.old) (record { clock = clock; op = op_of op })) }
 {
-    let answer = call(entries, levels, clock, op);
-    pack(answer.refusal, answer.merges, answer.purged)
+    match call(entries, levels, clock, op) {
+        Ok(answer) => pack(0, answer.merges, answer.purged),
+        Err(refusal) => pack(refusal.number(), 0, 0),
+    }
 }
 
 // Fills the rows with the live dockets from lo to hi: count in the lower half, the next docket from bit 32, 'more' as bit 48, the refusal from bit 56.
@@ -191,7 +188,7 @@ pub extern "C" fn guontrem_scan(
     ensures value { result ≡ packed_scan (scan_tables entries.now levels.now lo hi rows.old).answer }
     ensures rows_after { rows.new ≡ (scan_tables entries.now levels.now lo hi rows.old).rows }
 {
-    pack_scan(scan(entries, levels, lo, hi, rows))
+    pack_scanned(scan(entries, levels, lo, hi, rows))
 }
 
 // The same over the grower's rows, counts and stamps alone.
@@ -206,5 +203,5 @@ pub extern "C" fn guontrem_scan_counts(
     ensures value { result ≡ packed_scan (scan_counts_tables entries.now levels.now lo hi rows.old).answer }
     ensures rows_after { rows.new ≡ (scan_counts_tables entries.now levels.now lo hi rows.old).rows }
 {
-    pack_scan(scan_counts(entries, levels, lo, hi, rows))
+    pack_scanned(scan(entries, levels, lo, hi, rows))
 }

@@ -18,20 +18,16 @@ use Rattle.tables.specs.Formed.{LevelFormed}
 use Rattle.tables.proofs.FormedSound.{sound_words}
 use Rattle.check_refusal.specs.Dockets.{docket_refusal}
 use Rattle.check_refusal.proofs.Refusals.{dockets_refuse_low, allowed_sound}
-use Rattle.lookup.specs.declared.Answer.{Answer}
-use Rattle.lookup.specs.declared.Answer.TheVariants.{Refused}
-use Rattle.lookup.specs.declared.CountAnswer.{CountAnswer}
-use Rattle.lookup.specs.declared.CountAnswer.TheVariants as counts
-use Rattle.lookup.specs.Lookup.{answered, lookup_tables}
+use Rattle.lookup.specs.Lookup.{Answer, Refused, Absent, Found, answered, lookup_tables}
 use Rattle.lookup.specs.Counts.{lookup_counts, without_price}
 use Rattle.lookup.proofs.Counts.{counts_without_prices}
 
-abbrev pub CountLow : ℕ → CountAnswer → Type 0
-CountLow clock (counts.Refused n) = n ≤ 4
-CountLow clock counts.Absent = Unit {0}
-CountLow clock (counts.Found count stamp) = (count < 4294967296) × (1 ≤ stamp) × (stamp ≤ clock)
+abbrev pub CountLow : ℕ → Answer ℕ → Type 0
+CountLow clock (Refused n) = n ≤ 4
+CountLow clock Absent = Unit {0}
+CountLow clock (Found count stamp) = (count < 4294967296) × (1 ≤ stamp) × (stamp ≤ clock)
 
-abbrev AnswerLow : ℕ → Answer → Type 0
+abbrev AnswerLow : ℕ → Answer Tally → Type 0
 AnswerLow clock a = CountLow clock (without_price a)
 
 abbrev FoundLow : ℕ → model.Found Tally → Type 0

@@ -4,6 +4,9 @@ use mathlib.Core.Bool.{Bool, true, false, cond}
 use mathlib.Core.List.{List}
 use Prim.Native.Nat.{ℕ}
 use lib.Dec.{eqb}
+use Rattle.std.proofs.Common.{Option, None, Some, Result, Ok, Err}
+use Rattle.refusals.specs.declared.Refusal.{Refusal}
+use Rattle.refusals.specs.Numbers.{refusal_of, numbered}
 use Rattle.model.specs.declared.Tally.{Tally}
 use Rattle.model.specs.Records.{State}
 use Rattle.model.specs.Lookup as model
@@ -13,28 +16,39 @@ use Rattle.tables.specs.Slots.{tally_of}
 use Rattle.tables.specs.Placed.{read_state, read_counts}
 use Rattle.tables.proofs.Shown.{state_less}
 use Rattle.check_refusal.specs.Dockets.{docket_refusal}
-use Rattle.lookup.specs.declared.Answer.{Answer}
-use Rattle.lookup.specs.declared.Answer.TheVariants as hall
-use Rattle.lookup.specs.declared.CountAnswer.{CountAnswer}
-use Rattle.lookup.specs.declared.CountAnswer.TheVariants.{Refused}
-use Rattle.lookup.specs.Lookup.{answered, lookup_tables, numbers}
-use Rattle.lookup.specs.Counts.{counted, lookup_counts, without_price, count_numbers, with_price}
+use Rattle.lookup_level.specs.declared.Found as put
+use Rattle.lookup.specs.Lookup.{Answer, answer_of, Refused, Absent, Found, answered, lookup_tables, numbers}
+use Rattle.lookup.specs.Counts.{counts_alone, lookup_counts, without_price, count_numbers, with_price}
 use Rattle.lookup.proofs.Numbers.{refused_exactly}
 
 -- What is found, its price left out.
-found_counted : (f : model.Found Tally) → counted (map_found (λ a. a.count) f) ≡ without_price (answered f)
+found_counted : (f : model.Found Tally) → answered (map_found (λ a. a.count) f) ≡ without_price (answered f)
 found_counted model.absent = refl
 found_counted (model.found a t) = refl
 
-refusal_kept : (a : Answer) → (count_numbers (without_price a)).refusal ≡ (numbers a).refusal
-refusal_kept (hall.Refused n) = refl
-refusal_kept hall.Absent = refl
-refusal_kept (hall.Found a t) = refl
+refusal_kept : (a : Answer Tally) → (count_numbers (without_price a)).refusal ≡ (numbers a).refusal
+refusal_kept (Refused n) = refl
+refusal_kept Absent = refl
+refusal_kept (Found a t) = refl
 
-pub numbers_back : (a : Answer) → with_price (numbers a).price (count_numbers (without_price a)) ≡ numbers a
-numbers_back (hall.Refused n) = refl
-numbers_back hall.Absent = refl
-numbers_back (hall.Found a t) = refl
+pub numbers_back : (a : Answer Tally) → with_price (numbers a).price (count_numbers (without_price a)) ≡ numbers a
+numbers_back (Refused n) = refl
+numbers_back Absent = refl
+numbers_back (Found a t) = refl
+
+-- A result without its price is the answer without it.
+pub alone_without_price : (r : Result (Option (put.Found Tally)) ℕ) → answer_of (counts_alone r) ≡ without_price (answer_of r)
+alone_without_price (Ok None) = refl
+alone_without_price (Ok (Some f)) = refl
+alone_without_price (Err n) = refl
+
+numbered_alone : (r : Result (Option (put.Found Tally)) Refusal) → numbered (counts_alone r) ≡ counts_alone (numbered r)
+numbered_alone (Ok found) = refl
+numbered_alone (Err r) = refl
+
+refused_alone : (r : Result (Option (put.Found Tally)) Refusal) → refusal_of (counts_alone r) ≡ refusal_of r
+refused_alone (Ok found) = refl
+refused_alone (Err r) = refl
 
 module _ (e l : List ℕ) where
   -- The counts that the tables read as find what the tables do, its price left out.
@@ -49,15 +63,24 @@ module _ (e l : List ℕ) where
     counts_without_prices = go (docket_refusal e l k k) (eqb (docket_refusal e l k k) 0)
       where
         go : (n : ℕ) (none : Bool)
-            → cond none (counted (model.lookup (read_counts e l).levels k)) (Refused n)
-            ≡ without_price (cond none (answered (model.lookup (read_state e l).levels k)) (hall.Refused n))
-        go n true = ap counted (counts_found k) ∙ found_counted (model.lookup (read_state e l).levels k)
+            → cond none (answered (model.lookup (read_counts e l).levels k)) (Refused n)
+            ≡ without_price (cond none (answered (model.lookup (read_state e l).levels k)) (Refused n))
+        go n true = ap answered (counts_found k) ∙ found_counted (model.lookup (read_state e l).levels k)
         go n false = refl
 
     -- What the grower's lookup promises of its answer.
-    pub counted_promised : {a : Answer} {r : CountAnswer} → a ≡ lookup_tables e l k → r ≡ without_price a
+    pub counted_promised : {a : Answer Tally} {r : Answer ℕ} → a ≡ lookup_tables e l k → r ≡ without_price a
         → (r ≡ lookup_counts e l k) × ((count_numbers r).refusal ≡ docket_refusal e l k k)
     counted_promised {a} is left = (
       left ∙ ap without_price is ∙ sym counts_without_prices,
       ap (λ r. (count_numbers r).refusal) left ∙ refusal_kept a ∙ ap (λ a. (numbers a).refusal) is ∙ refused_exactly e l k,
     )
+
+    -- Of a result of the hall's, and of the same without the price.
+    module _ (a : Result (Option (put.Found Tally)) Refusal) (r : Result (Option (put.Found ℕ)) Refusal) (left : r ≡ counts_alone a) where
+      pub counted_answer : answer_of (numbered a) ≡ lookup_tables e l k → answer_of (numbered r) ≡ lookup_counts e l k
+      counted_answer is =
+          rw left (ap answer_of (numbered_alone a) ∙ alone_without_price (numbered a) ∙ ap without_price is ∙ sym counts_without_prices)
+
+      pub counted_refusal : {n : ℕ} → refusal_of a ≡ n → refusal_of r ≡ n
+      counted_refusal is = rw left (refused_alone a ∙ is)

@@ -1,8 +1,7 @@
 -- What each turn over the levels, and each way out, says of the whole lookup.
-use mathlib.Core.Path.{◌≡◌, refl}
-use mathlib.Core.Logic.{◌≢◌}
+use mathlib.Core.Path.{◌≡◌, sym, ◌∙◌}
 use mathlib.Core.List.{List}
-use Prim.Native.Nat.{ℕ, zero, suc, ◌+◌, ◌-◌}
+use Prim.Native.Nat.{ℕ, suc, ◌+◌, ◌-◌, ◌<◌, ◌≤◌}
 use native.Mathlib.Omega.{arith}
 use native.Mathlib.Numerals.{add-one}
 use Rattle.model.specs.declared.Tally.{Tally}
@@ -27,12 +26,23 @@ module _ (e l : List ℕ) (k : ℕ) where
   unfolding levels_as model.lookup_from
   look_none left level date z = rw z
 
-  -- The level says d, which is w: then w, or what the levels from the next one on give.
-  pub look_next : (left level date next : ℕ) (d w : Decided) → left ≢ 0 → next ≡ suc level
-      → d ≡ level_decides date (read_level e l level) k → d ≡ w
-      → look_from e l k left level date ≡ settle w (look_from e l k (left - 1) next)
+  -- A level says d: then d, or what the levels from the next one on give.
+  look_next : (left level date : ℕ) (d : Decided) → d ≡ level_decides date (read_level e l level) k
+      → look_from e l k (suc left) level date ≡ settle d (look_from e l k left (suc level))
   unfolding levels_as
-  look_next zero level date next d w nz n says is = absurd (nz refl)
-  look_next (suc j) level date next d w nz n says is =
-      let j≡ : suc j - 1 ≡ j = omega arith in
-      rw (j≡, n, ← is, says) (lookup_decides date (read_level e l level) (read_levels e l j (suc level)) k)
+  look_next left level date d says = rw says (lookup_decides date (read_level e l level) (read_levels e l left (suc level)) k)
+
+  -- The levels from one on, up to the deepest.
+  abbrev pub look_on : ℕ → ℕ → model.Found Tally
+  look_on level date = look_from e l k ((settings_of l).deepest + 1 - level) level date
+
+  -- A level has said d, which is w, and so settles what all levels give, or leaves it to the next ones.
+  pub look_turn : (level date next : ℕ) (all : model.Found Tally) (d w : Decided) → level ≤ (settings_of l).deepest → next ≡ suc level
+      → look_on level date ≡ all → d ≡ level_decides date (read_level e l level) k → d ≡ w → settle w (look_on next) ≡ all
+  look_turn level date next all d w inside follows so_far says is =
+      let more : (settings_of l).deepest + 1 - level ≡ suc ((settings_of l).deepest + 1 - suc level) = omega arith in
+      let leads : look_on level date ≡ settle d (look_on (suc level)) = rw more (look_next ((settings_of l).deepest + 1 - suc level) level date d says) in
+      rw (← is, follows) (sym leads ∙ so_far)
+
+  pub look_over : (level date : ℕ) → (settings_of l).deepest < level → look_on level date ≡ model.absent
+  look_over level date over = look_none ((settings_of l).deepest + 1 - level) level date (omega arith)

@@ -1,10 +1,12 @@
 -- What a lookup on the tables answers, case by case.
-use mathlib.Core.Path.{◌≡◌, sym, ap, ◌∙◌}
-use mathlib.Core.Logic.{◌≢◌}
+use mathlib.Core.Path.{◌≡◌}
 use mathlib.Core.List.{List}
 use Prim.Native.Nat.{ℕ, ◌≤◌}
 use native.Mathlib.Omega.{arith}
-use borrow.Author.Tests.{eq-eqb, ne_eqb, le-ltb}
+use borrow.Author.Tests.{ne_eqb, le-ltb}
+use Rattle.refusals.specs.declared.Refusal.{Refusal}
+use Rattle.refusals.specs.Numbers.{number_of}
+use Rattle.refusals.proofs.Numbers.{number_nonzero}
 use Rattle.model.specs.declared.Tally.{Tally}
 use Rattle.model.specs.Lookup as model
 use Rattle.model.specs.Records.{State}
@@ -13,21 +15,17 @@ use Rattle.tables.specs.Formed.{Formed}
 use Rattle.tables.proofs.Back.{written_reads}
 use Rattle.tables.proofs.FormedSound.{words_sound}
 use Rattle.check_refusal.specs.Dockets.{docket_refusal}
-use Rattle.lookup.specs.declared.Answer.{Answer}
-use Rattle.lookup.specs.declared.Answer.TheVariants.{Refused}
-use Rattle.lookup.specs.declared.Found as answer
-use Rattle.lookup.specs.Found.{found_of}
-use Rattle.lookup.specs.Lookup.{answered, lookup_tables}
+use Rattle.lookup.specs.Lookup.{Refused, answered, lookup_tables}
 
-module _ (e l : List ℕ) (k r : ℕ) (checked : r ≡ docket_refusal e l k k) where
-  pub refused : r ≢ 0 → Refused r ≡ lookup_tables e l k
+-- A refusal's number is the one that the check has found.
+module _ (e l : List ℕ) (k : ℕ) where
+  pub refused : (r : Refusal) → number_of r ≡ docket_refusal e l k k → Refused (number_of r) ≡ lookup_tables e l k
   unfolding lookup_tables
-  refused n = rw (← checked, ne_eqb r 0 n)
+  refused r checked = rw (← checked, ne_eqb (number_of r) 0 (number_nonzero r))
 
-  pub looked_up : r ≡ 0 → (f : answer.Found) → found_of f ≡ model.lookup (read_state e l).levels k
-      → (a : Answer) → answered (found_of f) ≡ a → a ≡ lookup_tables e l k
+  pub looked_up : 0 ≡ docket_refusal e l k k → (f : model.Found Tally) → f ≡ model.lookup (read_state e l).levels k → answered f ≡ lookup_tables e l k
   unfolding lookup_tables
-  looked_up z f says a is = rw (← checked, eq-eqb r 0 z) (sym is ∙ ap answered says)
+  looked_up checked f says = rw (← checked, says)
 
 -- On the words of a formed state, a docket is looked up in that state.
 pub looked_up_words : (n : ℕ) (p : State ℕ Tally) (k : ℕ) → Formed n p → k ≤ 65535

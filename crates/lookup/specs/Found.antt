@@ -1,10 +1,9 @@
 -- What the levels hold for a docket.
-use Rattle.model.specs.declared.Tally.{Tally}
+use Rattle.std.specs.Prelude.{Option, None, Some}
 use Rattle.model.specs.Lookup as model
-use Rattle.lookup.specs.declared.Found as answer
-use Rattle.lookup.specs.declared.Found.TheVariants as found
+use Rattle.lookup_level.specs.declared.Found.{Found}
 
--- The answer, as the model gives it.
-abbrev pub found_of : answer.Found → model.Found Tally
-found_of found.Absent = model.absent
-found_of (found.Value tally stamp) = model.found tally stamp
+-- What is found, as the model gives it.
+abbrev pub found_of : {A : Type 0} → Option (Found A) → model.Found A
+found_of None = model.absent
+found_of (Some f) = model.found f.shown f.stamp

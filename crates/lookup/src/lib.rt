@@ -2,6 +2,7 @@
 #![tactic(auto)]
 
 ghost use Rattle.std.specs.Prelude.{◌≡◌, ◌≤◌};
+ghost use Rattle.refusals.specs.Numbers.{refusal_of, numbered};
 ghost use Rattle.model.specs.Lookup.{lookup};
 ghost use Rattle.tables.specs.Rows.{settings_of};
 ghost use Rattle.tables.specs.Placed.{read_level, read_state};
@@ -9,75 +10,49 @@ ghost use Rattle.check_refusal.specs.Dockets.{docket_refusal};
 ghost use Rattle.lookup_level.specs.Answers.{level_decides};
 ghost use Rattle.lookup.specs.Found.{found_of};
 ghost use Rattle.lookup_level.specs.Readable.{Readable};
-ghost use Rattle.lookup.specs.Lookup.{lookup_tables, numbers};
-ghost use Rattle.lookup.specs.Counts.{lookup_counts, count_numbers, without_price};
+ghost use Rattle.lookup.specs.Lookup.{answer_of, lookup_tables};
+ghost use Rattle.lookup.specs.Counts.{lookup_counts, counts_alone};
 
-use check_refusal::docket_refusal;
-use lookup_level::{Decided, look_chains};
+use check_refusal::check_dockets;
+use lookup_level::{Decided, Found, look_chains};
 use model::Tally;
+use refusals::Refusal;
 use table_levels::{deepest_of, level_at};
 
-// What the hall's lookup answers: the number of its refusal, or else nothing, or the tally and the stamp.
-#[derive(Clone, Copy)]
-pub enum Answer {
-    Refused(u32),
-    Absent,
-    Found(Tally, u32),
-}
-
-// What the grower's lookup answers: the same with the count alone.
-#[derive(Clone, Copy)]
-pub enum CountAnswer {
-    Refused(u32),
-    Absent,
-    Found(u32, u32),
-}
-
-// What the levels hold for a docket: nothing, or the tally and the stamp.
-#[derive(Clone, Copy)]
-enum Found {
-    Absent,
-    Value(Tally, u32),
-}
-
-// Looks one docket up; refused where the tables are not sound, or no docket has the number.
-pub fn lookup(entries: &[u32], levels: &[u32], docket: u32) -> Answer
-    ensures value { result ≡ lookup_tables entries.now levels.now docket }
-    ensures result_value { (numbers result).refusal ≡ docket_refusal entries.now levels.now docket docket }
+// Looks one docket up: its tally and stamp, if it is live. Refused where the tables are not sound, or no docket has the number. The two
+// tables stay two slices, as C lends them.
+#[inline(always)]
+pub fn lookup(entries: &[u32], levels: &[u32], docket: u32) -> Result<Option<Found<Tally>>, Refusal>
+    ensures value { answer_of (numbered result) ≡ lookup_tables entries.now levels.now docket }
+    ensures result_value { refusal_of result ≡ docket_refusal entries.now levels.now docket docket }
 {
-    let refusal = docket_refusal(entries, levels, docket, docket);
-    if refusal != 0 {
-        return Answer::Refused(refusal);
-    }
-    match look_up(entries, levels, docket) {
-        Found::Absent => Answer::Absent,
-        Found::Value(tally, stamp) => Answer::Found(tally, stamp),
-    }
+    check_dockets(entries, levels, docket, docket)?;
+    Ok(look_up(entries, levels, docket))
 }
 
-// Looks one docket up for the grower: count and stamp. Called from here too, a lookup would be compiled into neither, so its steps stand here again.
-pub fn lookup_count(entries: &[u32], levels: &[u32], docket: u32) -> CountAnswer
-    ensures value { result ≡ lookup_counts entries.now levels.now docket }
-    ensures result_value { (count_numbers result).refusal ≡ docket_refusal entries.now levels.now docket docket }
+// The same for the grower: the count and the stamp.
+pub fn lookup_count(
+    entries: &[u32],
+    levels: &[u32],
+    docket: u32,
+) -> Result<Option<Found<u32>>, Refusal>
+    ensures value { answer_of (numbered result) ≡ lookup_counts entries.now levels.now docket }
+    ensures result_value { refusal_of result ≡ docket_refusal entries.now levels.now docket docket }
 {
-    let refusal = docket_refusal(entries, levels, docket, docket);
-    if refusal != 0 {
-        return CountAnswer::Refused(refusal);
-    }
-    match look_up(entries, levels, docket) {
-        Found::Absent => CountAnswer::Absent,
-        Found::Value(tally, stamp) => CountAnswer::Found(tally.count, stamp),
-    }
+    without_price(lookup(entries, levels, docket))
 }
 
 // The answer with the price left out.
-pub fn without_price(answer: Answer) -> CountAnswer
-    ensures { result ≡ without_price answer }
+#[inline(always)]
+pub fn without_price<E>(answer: Result<Option<Found<Tally>>, E>) -> Result<Option<Found<u32>>, E>
+    ensures { result ≡ counts_alone answer }
 {
     match answer {
-        Answer::Refused(refusal) => CountAnswer::Refused(refusal),
-        Answer::Absent => CountAnswer::Absent,
-        Answer::Found(tally, stamp) => CountAnswer::Found(tally.count, stamp),
+        Ok(found) => Ok(found.map(|put| Found {
+            stamp: put.stamp,
+            shown: put.shown.count,
+        })),
+        Err(refusal) => Err(refusal),
     }
 }
 
@@ -91,23 +66,18 @@ fn look_level(e: &[u32], l: &[u32], level: usize, docket: u32, date: u32) -> Dec
 }
 
 // Reads the levels from 0, carries the latest date met so far, and stops at the first level that decides.
-fn look_up(e: &[u32], l: &[u32], docket: u32) -> Found
+fn look_up(e: &[u32], l: &[u32], docket: u32) -> Option<Found<Tally>>
     requires { Readable e.now l.now }
     ensures { found_of result ≡ lookup (read_state e.now l.now).levels docket }
 {
     let levels = deepest_of(l) + 1;
-    let mut left = levels;
     let mut date = 0;
-    while left != 0 {
-        let level = levels - left;
+    for level in 0..levels {
         match look_level(e, l, level, docket, date) {
-            Decided::Value(stamp, tally) => return Found::Value(tally, stamp),
-            Decided::Absent => return Found::Absent,
-            Decided::Deeper(met) => {
-                date = met;
-                left -= 1;
-            }
+            Decided::Value(found) => return Some(found),
+            Decided::Absent => return None,
+            Decided::Deeper(met) => date = met,
         }
     }
-    Found::Absent
+    None
 }

@@ -48,7 +48,7 @@ module _ (date : ℕ) where
 
 -- Deeper levels that give the same for every date.
 pub settle_same : (d : Decided) (f g : ℕ → model.Found Tally) → ((met : ℕ) → f met ≡ g met) → settle d f ≡ settle d g
-settle_same (Value t a) f g same = refl
+settle_same (Value v) f g same = refl
 settle_same Absent f g same = refl
 settle_same (Deeper met) f g same = same met
 

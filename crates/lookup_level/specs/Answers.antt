@@ -11,7 +11,7 @@ use Rattle.lookup_level.specs.declared.Decided.TheVariants.{Value, Absent, Deepe
 
 -- What a point's entry and stamp say: a put gives its tally and its stamp, a delete means absent.
 abbrev pub says : Entry Tally → ℕ → Decided
-says (value a) t = Value t a
+says (value a) t = Value (record { stamp = t; shown = a })
 says tombstone t = Absent
 
 -- What they decide, by the latest date met so far: "a point found deeper with a stamp at or below it is absent".
@@ -25,7 +25,7 @@ decides date (p ∷ ps) k = cond (eqb p.key k) (tells date p.entry p.stamp) (dec
 
 -- A date is met before going deeper.
 abbrev pub meets : ℕ → Decided → Decided
-meets date (Value t a) = Value t a
+meets date (Value f) = Value f
 meets date Absent = Absent
 meets date (Deeper met) = Deeper (max met date)
 
@@ -39,6 +39,6 @@ level_decides date l k = meets (latest l.ranges k) (decides date l.points k)
 
 -- What a level has decided, or else what the deeper levels give for the latest date met so far.
 abbrev pub settle : Decided → (ℕ → model.Found Tally) → model.Found Tally
-settle (Value t a) deeper = model.found a t
+settle (Value f) deeper = model.found f.shown f.stamp
 settle Absent deeper = model.absent
 settle (Deeper date) deeper = deeper date

@@ -2,7 +2,7 @@
 // the ranges over its docket that it has met so far.
 #![tactic(auto)]
 
-ghost use Rattle.std.specs.Prelude.{◌≡◌, map, max};
+ghost use Rattle.std.specs.Prelude.{◌≡◌, map};
 ghost use Rattle.tables.specs.Slots.{InTable};
 ghost use Rattle.tables.specs.Sound.{chain_from};
 ghost use Rattle.tables.specs.Placed.{read_point};
@@ -11,13 +11,20 @@ ghost use Rattle.lookup_level.specs.Answers.{tells, decides, chain_level, level_
 
 use chain_cover::latest_date;
 use model::Tally;
-use table_slots::{PUT, kind_of, lo_of, next_of, stamp_of, tally_of};
+use table_slots::{Kind, has_kind, lo_of, next_of, stamp_of, tally_of};
 
-// What one level says: a stamp and a tally, that the docket is absent, or to go deeper with the latest date met so far. The stamp stands
-// before the tally: behind it both would be copied through memory, in parts that do not match.
+// What is found of a docket: the stamp of its put, and the tally or what of it is shown. The stamp stands first: behind the tally both would be
+// copied through memory, in parts that do not match.
+#[derive(Clone, Copy)]
+pub struct Found<T> {
+    pub stamp: u32,
+    pub shown: T,
+}
+
+// What one level says: that a put is found, that the docket is absent, or to go deeper with the latest date met so far.
 #[derive(Clone, Copy)]
 pub enum Decided {
-    Value(u32, Tally),
+    Value(Found<Tally>),
     Absent,
     Deeper(u32),
 }
@@ -28,11 +35,10 @@ pub fn look_chains(e: &[u32], points: usize, ranges: usize, docket: u32, date: u
     requires ordered_2 { Ordered e.now ranges }
     ensures { result ≡ level_decides date (chain_level e.now points ranges) docket }
 {
-    let by_points = find_point(e, points, docket, date);
-    if let Decided::Deeper(met) = by_points {
-        return Decided::Deeper(greater(met, latest_date(e, ranges, docket)));
+    match find_point(e, points, docket, date) {
+        Decided::Deeper(met) => Decided::Deeper(met.max(latest_date(e, ranges, docket))),
+        by_points => by_points,
     }
-    by_points
 }
 
 // What the point at a slot decides.
@@ -41,16 +47,15 @@ fn tell(e: &[u32], slot: usize, date: u32) -> Decided
     ensures { result ≡ tells date (read_point e.now slot).entry (read_point e.now slot).stamp }
 {
     let stamp = stamp_of(e, slot);
-    if stamp <= date {
-        return Decided::Absent;
+    if stamp <= date || !has_kind(e, slot, Kind::Put) {
+        Decided::Absent
+    } else {
+        let shown = tally_of(e, slot);
+        Decided::Value(Found { stamp, shown })
     }
-    if kind_of(e, slot) != PUT {
-        return Decided::Absent;
-    }
-    Decided::Value(stamp, tally_of(e, slot))
 }
 
-// Walks the points, which ascend, no farther than the docket.
+// Walks the points, which ascend, no farther than the docket: by their links, so that no index is counted.
 fn find_point(e: &[u32], head: usize, docket: u32, date: u32) -> Decided
     requires { Ordered e.now head }
     ensures { result ≡ decides date (map (read_point e.now) (chain_from e.now head)) docket }
@@ -67,10 +72,4 @@ fn find_point(e: &[u32], head: usize, docket: u32, date: u32) -> Decided
         at = next_of(e, at);
     }
     Decided::Deeper(date)
-}
-
-fn greater(a: u32, b: u32) -> u32
-    ensures { result ≡ max a b }
-{
-    if a < b { b } else { a }
 }

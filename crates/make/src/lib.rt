@@ -2,14 +2,16 @@
 #![tactic(auto)]
 
 ghost use Rattle.std.specs.Prelude.{◌≡◌};
+ghost use Rattle.refusals.specs.Numbers.{refusal_of};
 ghost use Rattle.make.specs.Make.{make_tables};
 
 use make_fresh::{free_slots, lay_levels};
-use settings::{Checked, Settings};
+use refusals::Refusal;
+use settings::Settings;
 use table_levels::level_length;
 use table_slots::{entries_fit, slot_count};
 
-// Makes a store; answers 0, or the number of the refusal with both tables as they were.
+// Makes a store; refused with both tables as they were. They are two slices, as C lends them, and the settings four numbers, of which any may be asked.
 pub fn make(
     entries: &mut [u32],
     levels: &mut [u32],
@@ -17,22 +19,18 @@ pub fn make(
     ratio: u32,
     buffer: u32,
     term: u32,
-) -> u32
-    ensures { record { refusal = result; entries = entries.new; levels = levels.new } ≡
+) -> Result<(), Refusal>
+    ensures { record { refusal = refusal_of result; entries = entries.new; levels = levels.new } ≡
         make_tables entries.old levels.old (record { deepest = deepest; ratio = ratio; buffer = buffer; term = term }) }
 {
     if !entries_fit(entries) {
-        return refusals::ENTRY_LENGTH;
+        return Err(Refusal::EntryLength);
     }
-    let checked = Settings::new(deepest, ratio, buffer, term);
-    let Checked::Accepted(settings) = checked else {
-        return refusals::SETTINGS;
-    };
+    let settings = Settings::new(deepest, ratio, buffer, term)?;
     if levels.len() != level_length(deepest as usize) {
-        return refusals::LEVEL_TABLE;
+        return Err(Refusal::LevelTable);
     }
-    let slots = slot_count(entries);
-    free_slots(entries, slots);
+    free_slots(entries, slot_count(entries));
     lay_levels(levels, settings);
-    0
+    Ok(())
 }

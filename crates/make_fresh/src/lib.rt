@@ -16,10 +16,8 @@ pub fn free_slots(entries: &mut [u32], slots: usize)
     ensures { entries.new ≡ made_entries slots }
 {
     set_top(entries, 1);
-    let mut slot = 1;
-    while slot <= slots {
+    for slot in 1..=slots {
         free_slot(entries, slot, slots);
-        slot += 1;
     }
 }
 
@@ -28,11 +26,8 @@ fn free_slot(entries: &mut [u32], slot: usize, slots: usize)
     requires { (length entries.old ≡ entry_length slots) × (slots ≤ 65535) × (slot ≤ slots) }
     ensures { entries.new ≡ set_slot entries.old slot (free_slot (next_free slots slot)) }
 {
-    if slot == slots {
-        set_free(entries, slot, 0);
-        return;
-    }
-    set_free(entries, slot, slot + 1);
+    let next = if slot == slots { 0 } else { slot + 1 };
+    set_free(entries, slot, next);
 }
 
 // Writes every word of the level table: the settings, then a row of zeros for each level.
@@ -41,9 +36,7 @@ pub fn lay_levels(levels: &mut [u32], s: Settings)
     ensures { levels.new ≡ made_levels s }
 {
     set_settings(levels, s);
-    let mut i = 0;
-    while i <= s.deepest as usize {
+    for i in 0..=s.deepest as usize {
         clear_level(levels, i);
-        i += 1;
     }
 }

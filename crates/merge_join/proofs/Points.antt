@@ -13,8 +13,7 @@ use Rattle.model.specs.Merge.{names, point_before}
 use Rattle.tables.specs.Placed.{entry_kind, point_cell}
 use Rattle.chain_cells.specs.Cells.{cell_lo, cell_hi, cell_before, cells_name}
 use Rattle.chain_cells.specs.Order.{CellsOrdered}
-use Rattle.chain_sieve.specs.Doomed.{doomed}
-use Rattle.chain_sieve.specs.declared.Doomed.TheVariants.{Deletes}
+use Rattle.chain_sieve.specs.Doomed.{is_delete}
 use Rattle.merge_join.proofs.Maps.{any-map_where, merge-map_where, map_ascending_where}
 use Rattle.merge_join.proofs.Spans.{span_lo, span_hi, key_one}
 
@@ -57,8 +56,8 @@ puts : (n : Entry Tally) → not (eqb (entry_kind n) 2) ≡ is_put n
 puts (value a) = refl
 puts tombstone = refl
 
-pub delete_cells : (ps : List (Point ℕ Tally)) → select (doomed Deletes) (map point_cell ps) ≡ map point_cell (reject (λ p. is_put p.entry) ps)
-delete_cells ps = select-map point_cell (doomed Deletes) ps ∙ ap (map point_cell) (select_same _ _ (λ p. deletes p.entry) ps)
+pub delete_cells : (ps : List (Point ℕ Tally)) → select is_delete (map point_cell ps) ≡ map point_cell (reject (λ p. is_put p.entry) ps)
+delete_cells ps = select-map point_cell is_delete ps ∙ ap (map point_cell) (select_same _ _ (λ p. deletes p.entry) ps)
 
-pub put_cells : (ps : List (Point ℕ Tally)) → reject (doomed Deletes) (map point_cell ps) ≡ map point_cell (select (λ p. is_put p.entry) ps)
-put_cells ps = select-map point_cell (λ c. not (doomed Deletes c)) ps ∙ ap (map point_cell) (select_same _ _ (λ p. puts p.entry) ps)
+pub put_cells : (ps : List (Point ℕ Tally)) → reject is_delete (map point_cell ps) ≡ map point_cell (select (λ p. is_put p.entry) ps)
+put_cells ps = select-map point_cell (λ c. not (is_delete c)) ps ∙ ap (map point_cell) (select_same _ _ (λ p. puts p.entry) ps)

@@ -12,8 +12,7 @@ use Rattle.model.specs.Merge.{gone, release, settled, merged, joined, freed, del
 use Rattle.tables.specs.Placed.{Cell, point_cell, range_cell, head}
 use Rattle.tables.proofs.Back.{point_cell_slots, range_cell_slots}
 use Rattle.chain_cells.specs.Sifting.{Chain, OneHeld, Sifted}
-use Rattle.chain_sieve.specs.Doomed.{doomed}
-use Rattle.chain_sieve.specs.declared.Doomed.TheVariants.{Deletes, All}
+use Rattle.chain_sieve.specs.Doomed.{is_delete}
 use Rattle.chain_cells.specs.declared.Cursor.{Cursor}
 use Rattle.table_levels.specs.declared.Level.{Level}
 use Rattle.merge_join.specs.Joining.{Levels, Merged, MergedHeld, Settled, Joined, merging}
@@ -42,12 +41,12 @@ range_chain g = record {
 }
 
 -- All cells go.
-all_go : (cs : List Cell) → select (doomed All) cs ≡ cs
+all_go : (cs : List Cell) → select (λ c. true) cs ≡ cs
 unfolding select
 all_go [] = refl
 all_go (c ∷ cs) = ap (◌∷◌ c) (all_go cs)
 
-none_stay : (cs : List Cell) → reject (doomed All) cs ≡ []
+none_stay : (cs : List Cell) → reject (λ c. true) cs ≡ []
 none_stay cs = select_never _ (λ c. refl) cs
 
 module _ {g : Merged} {e : List ℕ} {level : Level} (h : MergedHeld g e level) where
@@ -55,7 +54,7 @@ module _ {g : Merged} {e : List ℕ} {level : Level} (h : MergedHeld g e level) 
   pub sieve_points_asks : OneHeld (point_chain g) e level.points
   sieve_points_asks = record { held = h.held; head_is = ap (λ (v : Level). v.points) h.level_is }
 
-  module _ {e₁ : List ℕ} {m : Cursor} (s : Sifted (doomed Deletes) (point_chain g) e₁ m) where
+  module _ {e₁ : List ℕ} {m : Cursor} (s : Sifted is_delete (point_chain g) e₁ m) where
     pub sieve_ranges_asks : OneHeld (range_chain g) e₁ level.ranges
     unfolding settled
     sieve_ranges_asks =
@@ -67,7 +66,7 @@ module _ {g : Merged} {e : List ℕ} {level : Level} (h : MergedHeld g e level) 
           head_is = ap (λ (v : Level). v.ranges) h.level_is;
         }
 
-    module _ {e₂ : List ℕ} {k : Cursor} (r : Sifted (doomed All) (range_chain g) e₂ k) where
+    module _ {e₂ : List ℕ} {k : Cursor} (r : Sifted (λ c. true) (range_chain g) e₂ k) where
       -- What the settled level holds and what has gone are all that it held.
       pub held_rest : held (settled g.level) + m.gone + k.gone ≡ level.held
       held_rest = omega (

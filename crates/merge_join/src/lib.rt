@@ -5,7 +5,7 @@ ghost use Rattle.lists.specs.All.{Exists};
 ghost use Rattle.merge_join.specs.Joining.{Levels, LevelsHeld, Joined, Merged, MergedHeld, merging, Settled};
 
 use chain_cells::splice;
-use chain_sieve::{Doomed, sieve};
+use chain_sieve::{is_delete, sieve};
 use merge_strike::strike;
 use merge_unite::unite;
 use table_levels::{Level, earlier};
@@ -16,10 +16,7 @@ pub fn join(e: &mut [u32], upper: Level, lower: Level, deepest: bool) -> Level
     ensures { (g : Levels) → LevelsHeld g e.old upper lower → Joined deepest g e.new result }
 {
     let merged = merge(e, upper, lower);
-    if !deepest {
-        return merged;
-    }
-    settle(e, merged)
+    if deepest { settle(e, merged) } else { merged }
 }
 
 // The upper level merged into the lower.
@@ -33,9 +30,9 @@ fn merge(e: &mut [u32], upper: Level, lower: Level) -> Level
     let ranges = splice(e, upper.ranges, united.head);
     let held = upper.held + lower.held - struck.gone - united.gone;
     Level {
-        points: points,
-        ranges: ranges,
-        held: held,
+        points,
+        ranges,
+        held,
         owed: earlier(upper.owed, lower.owed),
     }
 }
@@ -45,8 +42,8 @@ fn settle(e: &mut [u32], level: Level) -> Level
     requires { Exists (λ g. MergedHeld g e.old level) }
     ensures { (g : Merged) → MergedHeld g e.old level → Settled g e.new result }
 {
-    let puts = sieve(e, level.points, Doomed::Deletes);
-    let ranges = sieve(e, level.ranges, Doomed::All);
+    let puts = sieve(e, level.points, is_delete);
+    let ranges = sieve(e, level.ranges, |_, _| true);
     Level {
         points: puts.head,
         ranges: 0,

@@ -59,14 +59,12 @@ module _ (deepest : Bool) (g : Levels) (e : List ℕ) (r : Level) (j : Joined de
   abbrev left : model.Level ℕ Tally
   left = joined deepest g.upper g.lower
 
-  pub points_small : r.points ≤ 65535
-  points_small = rw j.level_is (first_head_fits j.held)
-
-  pub ranges_small : r.ranges ≤ 65535
-  ranges_small = rw j.level_is (second_head_fits j.held)
-
-  pub held_small : r.held ≤ 65535
-  held_small = rw j.level_is (omega (arith, two_few j.held, length-map left.points point_cell, length-map left.ranges range_cell))
+  pub row_small : (r.points ≤ 65535) × (r.ranges ≤ 65535) × (r.held ≤ 65535)
+  row_small = rw j.level_is (
+    first_head_fits j.held,
+    second_head_fits j.held,
+    omega (arith, two_few j.held, length-map left.points point_cell, length-map left.ranges range_cell),
+  )
 
 module _ (g : Store) (e l : List ℕ) (laid : Laid g e l) (i : ℕ) (deep : i < g.state.settings.deepest) where
   -- The rows of both levels are in the table, whose levels are few.
@@ -112,6 +110,12 @@ module _ (g : Store) (e l : List ℕ) (laid : Laid g e l) (i : ℕ) (deep : i < 
   -- Whether the next level is the deepest, as the code asks it.
   pub next_deepest : (d : ℕ) → d ≡ (settings_of l).deepest → eqb (i + 1) d ≡ eqb (suc i) g.state.settings.deepest
   next_deepest d is = ap (eqb (i + 1)) (is ∙ laid_deepest g e l laid) ∙ ap (λ k. eqb k g.state.settings.deepest) (omega arith)
+
+  -- So the code's join is that of the two.
+  pub pair_joined : (upper lower : Level) → upper ≡ level_at l i → lower ≡ level_at l (i + 1) → (d : ℕ) → d ≡ (settings_of l).deepest
+      → (e' : List ℕ) (r : Level) → ((h : Levels) → LevelsHeld h e upper lower → Joined (eqb (i + 1) d) h e' r)
+      → Joined (eqb (suc i) g.state.settings.deepest) (pair g i) e' r
+  pair_joined upper lower u w d is e' r joins = rw (next_deepest d is) at (joins (pair g i) (pair_held upper lower u w))
 
   merged_formed : Formed g.slots (timed g.time (merge_state i g.state))
   unfolding merge_state

@@ -1,7 +1,7 @@
 -- What the two tables of a store tell.
 use mathlib.Core.Path.{◌≡◌, ap, ◌∙◌}
 use mathlib.Core.List.{List}
-use Prim.Native.Nat.{ℕ, ◌≤◌}
+use Prim.Native.Nat.{ℕ, ◌<◌, ◌≤◌}
 use native.Mathlib.Omega.{arith}
 use lib.ListN.{length}
 use Rattle.settings.specs.declared.Settings.{Settings}
@@ -28,6 +28,10 @@ module _ (g : Store) (e l : List ℕ) (laid : Laid g e l) where
   pub laid_deepest : (settings_of l).deepest ≡ g.state.settings.deepest
   laid_deepest = ap (λ (s : Settings). s.deepest) laid_settings
 
+  -- A level below the deepest that the code has read.
+  pub laid_below : (d : ℕ) → d ≡ (settings_of l).deepest → (i : ℕ) → i < d → i < g.state.settings.deepest
+  laid_below d is i lt = omega (arith, laid_deepest)
+
   pub laid_allowed : Allowed g.state.settings
   laid_allowed = allowed_bounds g.state.settings laid.formed.settings_ok
 
@@ -42,6 +46,3 @@ module _ (g : Store) (e l : List ℕ) (laid : Laid g e l) where
 module _ (v : Level) (l : List ℕ) (i : ℕ) (read : v ≡ level_at l i) where
   pub held_read : v.held ≡ (level_row l i).held
   held_read = ap (λ (x : Level). x.held) read
-
-  pub owed_read : v.owed ≡ (level_row l i).owed
-  owed_read = ap (λ (x : Level). x.owed) read

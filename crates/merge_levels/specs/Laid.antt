@@ -1,5 +1,6 @@
 -- Two tables that hold the words of a state.
 use Rattle.std.specs.Prelude.{◌≡◌, List, ℕ}
+use Rattle.lists.specs.All.{Exists}
 use Rattle.model.specs.declared.Tally.{Tally}
 use Rattle.model.specs.Records.{State}
 use Rattle.model.specs.Steps.{Work}
@@ -18,6 +19,13 @@ pub record Laid (g : Store) (e l : List ℕ) : Type 0 where
   pub formed : Formed g.slots (timed g.time g.state)
   pub entries : Holds g.slots (top_of g.state) (all_chains g.state) e
   pub levels : l ≡ level_words g.state
+
+-- Two tables that hold some store; and at this time.
+abbrev pub Stored : List ℕ → List ℕ → Type 0
+Stored e l = Exists (λ g. Laid g e l)
+
+abbrev pub StoredAt : List ℕ → List ℕ → ℕ → Type 0
+StoredAt e l t = Exists (λ g. Laid g e l × (g.time ≡ t))
 
 -- The same store in another state.
 abbrev pub at_state : Store → State ℕ Tally → Store

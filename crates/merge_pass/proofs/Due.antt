@@ -1,42 +1,19 @@
 -- Whether a level is due, as the code finds it out.
 use mathlib.Core.Path.{◌≡◌, refl, sym, ap, ◌∙◌}
-use mathlib.Core.Bool.{false}
 use mathlib.Core.List.{List}
-use Prim.Native.Nat.{ℕ, zero, suc, ◌-◌, ◌≤◌, ◌<◌}
+use Prim.Native.Nat.{ℕ, ◌≤◌, ◌<◌}
 use native.Mathlib.Omega.{arith}
-use lib.Dec.{leb, ltb}
-use borrow.Author.Tests.{eq-eqb, ne_eqb}
 use Rattle.settings.specs.declared.Settings.{Settings}
 use Rattle.settings.specs.declared.LevelSettings.{LevelSettings}
-use Rattle.settings.specs.Limits.{capacity, limit}
 use Rattle.settings.specs.Carried.{Carried}
 use Rattle.model.specs.declared.Tally.{Tally}
 use Rattle.model.specs.Records.{Level, level}
-use Rattle.model.specs.Steps.{overfull, overdue, due}
+use Rattle.model.specs.Steps.{due}
 use Rattle.tables.specs.Rows.{Row, level_row}
 use Rattle.tables.specs.Placed.{row_of_level}
 use Rattle.merge_levels.specs.Laid.{Store, Laid}
 use Rattle.merge_pass.specs.Due.{due_row}
 use Rattle.merge_levels.proofs.Store.{laid_row, laid_formed}
-
--- The two tests of the records, and that of what is owed, as the code finds them out.
-pub overfull-buffer : (settings : Settings) (i n : ℕ) → i ≡ 0 → leb settings.buffer n ≡ overfull settings i n
-unfolding overfull
-overfull-buffer settings i n e = rw e
-
-pub overfull_level : (settings : Settings) (i n : ℕ) → (i ≡ 0 → ⊥) → ltb (capacity settings i) n ≡ overfull settings i n
-unfolding overfull
-overfull_level settings zero n e = absurd (e refl)
-overfull_level settings (suc i) n e = refl
-
-module _ (settings : Settings) (t i owed : ℕ) where
-  pub overdue_none : owed ≡ 0 → false ≡ overdue settings t i owed
-  unfolding overdue
-  overdue_none z = rw (eq-eqb owed 0 z)
-
-  pub overdue_owing : (owed ≡ 0 → ⊥) → leb (limit settings i) (t - owed) ≡ overdue settings t i owed
-  unfolding overdue
-  overdue_owing z = rw (ne_eqb owed 0 z)
 
 -- A level's row tells whether the level is due.
 row_due : (settings : Settings) (t i : ℕ) (v : Level ℕ Tally) → due_row settings t i (row_of_level v) ≡ due settings t i v

@@ -1,9 +1,15 @@
 -- The pass, part by part: a level merged if it is due, and the merges of the parts added up.
-use mathlib.Core.Path.{◌≡◌, refl, ap}
+use mathlib.Core.Path.{◌≡◌, refl, sym, ap, ◌∙◌}
 use mathlib.Core.Bool.{Bool, true, false, cond}
 use mathlib.Core.List.{List}
-use Prim.Native.Nat.{ℕ}
+use Prim.Native.Nat.{ℕ, ◌+◌, ◌<◌, ◌≤◌}
 use native.Mathlib.Omega.{arith}
+use Rattle.settings.specs.declared.Settings.{Settings}
+use Rattle.settings.specs.declared.LevelSettings.{LevelSettings}
+use Rattle.settings.specs.Limits.{allowed}
+use Rattle.settings.specs.Carried.{at_level, Carried}
+use Rattle.settings.proofs.Allowed.{Allowed}
+use Rattle.settings.proofs.Carried.{carried_at}
 use Rattle.lists.specs.Lists.{iterate}
 use Rattle.model.specs.declared.Tally.{Tally}
 use Rattle.model.specs.Records.{State, level}
@@ -11,6 +17,8 @@ use Rattle.model.specs.Steps.{Work, begin, merge_level, due, pass_level, pass}
 use Rattle.model.proofs.Counted.{pass_level_adds}
 use Rattle.model.proofs.Numbers.{pass_level-merges}
 use Rattle.merge_levels.specs.Laid.{Store, Laid, Worked}
+use Rattle.tables.specs.Rows.{settings_of}
+use Rattle.merge_levels.proofs.Store.{laid_settings, laid_allowed}
 use Rattle.merge_levels.proofs.Turns.{Step, Counts, merge_counts, Reached}
 
 -- A level that is merged if a test holds: what follows where it fails, and where it holds.
@@ -63,3 +71,39 @@ pass_begun t g e l laid = record {
 pub reached_as : {step : Step} {goal : Work ℕ Tally} {g : Store} {e l : List ℕ} {merges i j : ℕ} → j ≡ i → Reached step goal g e l merges i
     → Reached step goal g e l merges j
 reached_as q w = rw q w
+
+-- The settings as the code has read them, and what it carries to a level of the pass.
+module _ (g : Store) (e l : List ℕ) (laid : Laid g e l) (s : Settings) (read : s ≡ settings_of l) where
+  settings_same : s ≡ g.state.settings
+  settings_same = read ∙ laid_settings g e l laid
+
+  pub read_allowed : Allowed s
+  read_allowed = rw settings_same (laid_allowed g e l laid)
+
+  pub read_ok : allowed s ≡ true
+  read_ok = rw settings_same laid.formed.settings_ok
+
+  pub read_above : (i : ℕ) → i < s.deepest → i < g.state.settings.deepest
+  read_above i h = rw (← settings_same) h
+
+  pub read_below : (i : ℕ) → s.deepest ≤ i → g.state.settings.deepest ≤ i
+  read_below i h = rw (← settings_same) h
+
+  module _ (at : LevelSettings) (here : at ≡ at_level s at.level) where
+    pub read_carried : at.level < s.deepest → Carried at
+    read_carried h = carried_at s at.level (read_ok, h) at here
+
+    pub read_same : {step : Step} {goal : Work ℕ Tally} {e' l' : List ℕ} {merges i : ℕ} (w : Reached step goal g e' l' merges i)
+        → w.work.state.settings ≡ at.settings
+    read_same w = w.settings ∙ sym settings_same ∙ sym (ap (λ (x : LevelSettings). x.settings) here)
+
+-- What is carried first, and what next.
+pub first_here : (s : Settings) (at : LevelSettings) → at ≡ at_level s 0 → (at ≡ at_level s at.level) × (at.level ≡ 0)
+first_here s at is = rw is (refl, refl)
+
+pub next_here : (s : Settings) (at next : LevelSettings) → at ≡ at_level s at.level → next ≡ at_level at.settings (at.level + 1)
+    → (next ≡ at_level s next.level) × (next.level ≡ at.level + 1)
+next_here s at next here is =
+    let same : at.settings ≡ s = ap (λ (x : LevelSettings). x.settings) here in
+    let level≡ : next.level ≡ at.level + 1 = ap (λ (x : LevelSettings). x.level) is in
+    (is ∙ ap (λ (r : Settings). at_level r (at.level + 1)) same ∙ ap (at_level s) (sym level≡), level≡)

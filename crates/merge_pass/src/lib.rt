@@ -6,7 +6,7 @@ ghost use Rattle.lists.specs.All.{Exists};
 ghost use Rattle.settings.specs.Carried.{Carried};
 ghost use Rattle.model.specs.Steps.{begin, overfull, overdue, pass_level, pass};
 ghost use Rattle.tables.specs.Rows.{InRows, level_row};
-ghost use Rattle.merge_levels.specs.Laid.{Store, Laid, Worked};
+ghost use Rattle.merge_levels.specs.Laid.{Store, StoredAt, Laid, Worked};
 ghost use Rattle.merge_pass.specs.Due.{due_row};
 
 use merge_levels::merge_level;
@@ -15,12 +15,13 @@ use table_levels::{level_at, settings_of};
 
 // The whole pass; how many merges it counts.
 pub fn pass(e: &mut [u32], l: &mut [u32], clock: u32) -> u32
-    requires { Exists (λ g. Laid g e.old l.old × (g.time ≡ clock)) }
+    requires { StoredAt e.old l.old clock }
     ensures { (g : Store) → Laid g e.old l.old → g.time ≡ clock → Worked g (pass clock (begin g.state)) e.new l.new result }
 {
     let settings = settings_of(l);
     let mut at = settings.at_level(0);
     let mut merges = 0;
+    // No index is counted: `at` is a level with its limit and its capacity, worked out from those of the level above.
     while at.level < settings.deepest {
         merges += pass_level(e, l, clock, at);
         at = at.next();
@@ -35,10 +36,11 @@ fn pass_level(e: &mut [u32], l: &mut [u32], clock: u32, at: LevelSettings) -> u3
     ensures { (g : Store) → Laid g e.old l.old → g.time ≡ clock → g.state.settings ≡ at.settings
         → Worked g (pass_level clock at.level (begin g.state)) e.new l.new result }
 {
-    if !is_due(l, clock, at) {
-        return 0;
+    if is_due(l, clock, at) {
+        merge_level(e, l, at.level as usize)
+    } else {
+        0
     }
-    merge_level(e, l, at.level as usize)
 }
 
 fn is_due(l: &[u32], clock: u32, at: LevelSettings) -> bool
@@ -48,31 +50,28 @@ fn is_due(l: &[u32], clock: u32, at: LevelSettings) -> bool
     ensures { result ≡ due_row at.settings clock at.level (level_row l.now at.level) }
 {
     let row = level_at(l, at.level as usize);
-    if is_overfull(row.held, at) {
-        return true;
-    }
-    is_overdue(row.owed, clock, at)
+    is_overfull(row.held, at) || is_overdue(row.owed, clock, at)
 }
 
 // Whether the buffer has B records or more, or another level more than its capacity.
+#[tactic(auto, unfolding(model::specs::Steps::overfull))]
 fn is_overfull(held: usize, at: LevelSettings) -> bool
     requires { Carried at }
     ensures { result ≡ overfull at.settings at.level held }
 {
     if at.level == 0 {
-        return at.settings.buffer as usize <= held;
+        at.settings.buffer as usize <= held
+    } else {
+        at.capacity() < held as u64
     }
-    at.capacity() < held as u64
 }
 
 // Whether a level has owed for its limit, the buffer too.
+#[tactic(auto, unfolding(model::specs::Steps::overdue))]
 fn is_overdue(owed: u32, clock: u32, at: LevelSettings) -> bool
     requires carried { Carried at }
     requires owed_le_clock { owed ≤ clock }
     ensures { result ≡ overdue at.settings clock at.level owed }
 {
-    if owed == 0 {
-        return false;
-    }
-    at.limit() <= (clock - owed) as u64
+    owed != 0 && at.limit() <= (clock - owed) as u64
 }

@@ -13,7 +13,7 @@ use Rattle.tables.specs.Placed.{Cell, head}
 use Rattle.chain_cells.specs.Cells.{cell_at, cell_lo, cell_hi, cell_key, cell_before, cells_cover, cells_name}
 use Rattle.chain_cells.specs.Held.{Held}
 use Rattle.chain_cells.specs.Order.{CellsOrdered}
-use Rattle.chain_cells.specs.Sifting.{Sift, Sifting, Sifts, sift_of}
+use Rattle.chain_cells.specs.Sifting.{at_start, Sift, Sifting, Sifts, sift_of}
 use Rattle.chain_cells.specs.declared.Cursor.{Cursor}
 use Rattle.chain_cells.proofs.Laws.{swapped, third_first}
 use Rattle.chain_cells.proofs.Reading.{place_in_table}
@@ -152,7 +152,7 @@ strike_of g =
 
 module _ (g : Meeting) (e : List ℕ) where
   pub striking_begins : (lower points ranges : ℕ) (f : Front) → f ≡ front_at e ranges → MeetingHeld g e lower points ranges
-      → Striking (strike_of g) e (record { points = points; ranges = f; cursor = record { head = lower; prior = 0; at = lower; gone = 0 } })
+      → Striking (strike_of g) e (record { points = points; ranges = f; cursor = at_start lower })
   striking_begins lower points ranges f is h = record {
     sifting = sifting_begins (goes_under g.points g.ranges) (lower_chain g) e lower (record { held = h.held; head_is = h.lower_is });
     lower_ordered = h.lower_ordered;

@@ -25,17 +25,12 @@ pub fn strike(e: &mut [u32], lower: usize, points: usize, ranges: usize) -> Curs
     requires { Exists (λ g. MeetingHeld g e.old lower points ranges) }
     ensures { (g : Meeting) → MeetingHeld g e.old lower points ranges → Struck g e.new result }
 {
-    let front = front_at(e, ranges);
     let mut m = Progress {
-        points: points,
-        ranges: front,
-        cursor: Cursor {
-            head: lower,
-            prior: 0,
-            at: lower,
-            gone: 0,
-        },
+        points,
+        ranges: front_at(e, ranges),
+        cursor: Cursor::at_start(lower),
     };
+    // A loop of its own: what decides moves on with each point, so that as a closure it would have to carry its invariant through every call.
     while m.cursor.at != 0 {
         m = strike_step(e, m);
     }
@@ -55,8 +50,8 @@ fn strike_step(e: &mut [u32], m: Progress) -> Progress
     let stamp = stamp_of(e, m.cursor.at);
     let goes = is_struck(e, points, ranges, key, stamp);
     Progress {
-        points: points,
-        ranges: ranges,
+        points,
+        ranges,
         cursor: sift(e, m.cursor, goes),
     }
 }
@@ -67,8 +62,5 @@ fn is_struck(e: &[u32], points: usize, ranges: Front, docket: u32, stamp: u32) -
     requires front_ordered { FrontOrdered e.now ranges }
     ensures { result ≡ struck_by e.now points ranges docket stamp }
 {
-    if first_names(e, points, docket) {
-        return true;
-    }
-    front_covers(e, ranges, docket, stamp)
+    first_names(e, points, docket) || front_covers(e, ranges, docket, stamp)
 }

@@ -3,7 +3,7 @@ use mathlib.Core.Path.{◌≡◌, refl, sym, ap, ◌∙◌}
 use mathlib.Core.List.{List, [], map}
 use Prim.Native.Nat.{ℕ}
 use Rattle.tables.specs.Placed.{Cell}
-use Rattle.chain_cells.specs.Sifting.{Sifted}
+use Rattle.chain_cells.specs.Sifting.{at_start, Sifted}
 use Rattle.chain_cells.specs.Splicing.{Chains}
 use Rattle.chain_cells.proofs.Sieves.{sifting_begins, sifting_ends}
 use Rattle.merge_unite.specs.Uniting.{doubled, later_cell, RangesHeld, United, lower_chain, Uniting}
@@ -12,7 +12,7 @@ use Rattle.merge_unite.proofs.Dates.{later_end}
 use Rattle.merge_unite.proofs.Places.{lower_none}
 
 pub uniting_begins : (g : Chains) (e : List ℕ) (upper lower : ℕ) → RangesHeld g e upper lower
-    → Uniting g e (record { upper = upper; cursor = record { head = lower; prior = 0; at = lower; gone = 0 } })
+    → Uniting g e (record { upper = upper; cursor = at_start lower })
 uniting_begins g e upper lower h = record {
   upper = g.upper;
   passed = [];

@@ -23,14 +23,10 @@ pub fn unite(e: &mut [u32], upper: usize, lower: usize) -> Cursor
     ensures { (g : Chains) → RangesHeld g e.old upper lower → United g e.new result }
 {
     let mut m = Progress {
-        upper: upper,
-        cursor: Cursor {
-            head: lower,
-            prior: 0,
-            at: lower,
-            gone: 0,
-        },
+        upper,
+        cursor: Cursor::at_start(lower),
     };
+    // A loop of its own: a step may pass an upper range in place of a lower one, or change one.
     while m.cursor.at != 0 {
         m = unite_step(e, m);
     }
@@ -46,28 +42,27 @@ fn unite_step(e: &mut [u32], m: Progress) -> Progress
     let cursor = m.cursor;
     if m.upper == 0 {
         return Progress {
-            upper: m.upper,
             cursor: sift(e, cursor, false),
+            ..m
         };
     }
     let upper = order_key(e, m.upper);
     let lower = order_key(e, cursor.at);
     if upper < lower {
-        let next = next_of(e, m.upper);
-        return Progress {
-            upper: next,
-            cursor: cursor,
-        };
-    }
-    if upper == lower {
+        Progress {
+            upper: next_of(e, m.upper),
+            ..m
+        }
+    } else if upper == lower {
         take_later(e, m.upper, cursor.at);
-        return Progress {
-            upper: m.upper,
+        Progress {
             cursor: sift(e, cursor, true),
-        };
-    }
-    Progress {
-        upper: m.upper,
-        cursor: sift(e, cursor, false),
+            ..m
+        }
+    } else {
+        Progress {
+            cursor: sift(e, cursor, false),
+            ..m
+        }
     }
 }

@@ -7,3 +7,8 @@ pub struct Tally {
     pub count: u32,
     pub price: u32,
 }
+
+impl Tally {
+    // That of a slot which has none.
+    pub const NONE: Tally = Tally { count: 0, price: 0 };
+}

@@ -1,4 +1,5 @@
 -- After an accepted call: ticks before the clock of the next due merge change nothing but the last clock, and a tick at it merges.
+use Rattle.std.proofs.Common.{Option, Some, None}
 use mathlib.Core.Path.{◌≡◌, refl, sym, ap, ◌∙◌}
 use mathlib.Core.Logic.{◌≢◌}
 use mathlib.Core.Bool.{Bool, true, false, true≢false, ◌&&◌, not}
@@ -17,8 +18,6 @@ use Rattle.model.specs.Steps.{Work, begin, merge_level, overfull, overdue, due, 
 use Rattle.model.specs.Calls.{Outcome, timed, prepared, step, run, answers}
 use Rattle.model.proofs.Settle.{pass_leaves_none_due}
 use Rattle.model.proofs.StepView.{accepted_outcome, worked, step_accepts}
-use Rattle.model_wake.specs.declared.Wake.{Wake}
-use Rattle.model_wake.specs.declared.Wake.TheVariants.{At, Never}
 use Rattle.model_wake.specs.Wake.{wake, Before, tick_at, last_clock, no_change}
 use Rattle.model_wake.proofs.Smallest.{Smallest, next_smallest, at_smallest}
 
@@ -81,10 +80,10 @@ module _ {S A : Type 0} where
     before_each : (t i : ℕ) → i < s.settings.deepest → Before t (wake s) → (level i s).owed ≢ 0 → t < (level i s).owed + limit s.settings i
     before_each t i below = go (wake s) (next_smallest s.settings (λ j. (level j s).owed))
       where
-        go : (w : Wake) → Smallest s.settings (λ j. (level j s).owed) s.settings.deepest w → Before t w → (level i s).owed ≢ 0
+        go : (w : Option ℕ) → Smallest s.settings (λ j. (level j s).owed) s.settings.deepest w → Before t w → (level i s).owed ≢ 0
             → t < (level i s).owed + limit s.settings i
-        go Never all b o = absurd (o (all i below))
-        go (At m) next b o = omega (arith, b, next.least i below o)
+        go None all b o = absurd (o (all i below))
+        go (Some m) next b o = omega (arith, b, next.least i below o)
 
     asleep : (t : ℕ) → s.clock ≤ t → Before t (wake s) → (i : ℕ) → i < s.settings.deepest → due s.settings t i (level i s) ≡ false
     asleep t later b i below =
@@ -162,7 +161,7 @@ module _ {S A : Type 0} where
       pub accepted : (step s (tick_at m)).answer.refusal ≡ 0
       pub merges : 1 ≤ (step s (tick_at m)).answer.merges
 
-    pub wakes : (m : ℕ) → wake s ≡ At m → Wakes m
+    pub wakes : (m : ℕ) → wake s ≡ Some m → Wakes m
     unfolding accepted_outcome worked prepared
     wakes m e =
         let next = at_smallest s.settings (λ j. (level j s).owed) e in

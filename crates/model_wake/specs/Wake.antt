@@ -1,26 +1,24 @@
 -- Request S-5: "the clock of the next due merge: the smallest owed + limit over levels 0 to L−1 with owed not 0, as a 64-bit number, or 'none'."
-use Rattle.std.specs.Prelude.{◌≡◌, ◌≢◌, cond, List, [], ◌∷◌, ℕ, ◌+◌, ◌<◌, ◌≤◌, min, eqb}
+use Rattle.std.specs.Prelude.{◌≡◌, ◌≢◌, cond, List, [], ◌∷◌, ℕ, ◌+◌, ◌<◌, ◌≤◌, min, eqb, Option, Some, None}
 use Rattle.settings.specs.declared.Settings.{Settings}
 use Rattle.settings.specs.Limits.{limit}
 use Rattle.lists.specs.Lists.{iterate}
 use Rattle.model.specs.Records.{State, level}
 use Rattle.model.specs.Calls.{Call, Answer, tick}
-use Rattle.model_wake.specs.declared.Wake.{Wake}
-use Rattle.model_wake.specs.declared.Wake.TheVariants.{At, Never}
 
 -- "owed + limit" of level i, "with owed not 0".
-abbrev pub wake_level : Settings → ℕ → ℕ → Wake
-wake_level settings i owed = cond (eqb owed 0) Never (At (owed + limit settings i))
+abbrev pub wake_level : Settings → ℕ → ℕ → Option ℕ
+wake_level settings i owed = cond (eqb owed 0) None (Some (owed + limit settings i))
 
 -- "the smallest"; 'none' is no number.
-abbrev pub sooner : Wake → Wake → Wake
-sooner Never b = b
-sooner (At m) Never = At m
-sooner (At m) (At n) = At (min m n)
+abbrev pub sooner : Option ℕ → Option ℕ → Option ℕ
+sooner None b = b
+sooner (Some m) None = Some m
+sooner (Some m) (Some n) = Some (min m n)
 
 -- "over levels 0 to L−1", by what each level owes.
-unfoldable pub next_wake : Settings → (ℕ → ℕ) → Wake
-next_wake settings owed = iterate (λ i next. sooner next (wake_level settings i (owed i))) 0 settings.deepest Never
+unfoldable pub next_wake : Settings → (ℕ → ℕ) → Option ℕ
+next_wake settings owed = iterate (λ i next. sooner next (wake_level settings i (owed i))) 0 settings.deepest None
 
 -- What "the smallest" is: of the levels before n one owes and its clock is m, and no level that owes has a smaller one.
 pub record Owes (settings : Settings) (owed : ℕ → ℕ) (n m : ℕ) : Type 0 where
@@ -31,13 +29,13 @@ pub record Owes (settings : Settings) (owed : ℕ → ℕ) (n m : ℕ) : Type 0 
   pub least : (i : ℕ) → i < n → owed i ≢ 0 → m ≤ owed i + limit settings i
 
 -- Of a store.
-abbrev pub wake : {S A : Type 0} → State S A → Wake
+abbrev pub wake : {S A : Type 0} → State S A → Option ℕ
 wake s = next_wake s.settings (λ i. (level i s).owed)
 
 -- Clock t lies "before that clock"; every clock does where there is none.
-abbrev pub Before : ℕ → Wake → Type 0
-Before t (At m) = t < m
-Before t Never = Unit {0}
+abbrev pub Before : ℕ → Option ℕ → Type 0
+Before t (Some m) = t < m
+Before t None = Unit {0}
 
 -- A tick at clock t, and the last clock after ticks at some clocks.
 abbrev pub tick_at : {A : Type 0} → ℕ → Call A

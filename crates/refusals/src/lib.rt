@@ -1,20 +1,48 @@
-// The refusals of document 01, by where they are found. Number 8, the end of the pass, never comes, and has no name here.
+// The refusals of document 01, each with its number, by where they are found. Number 8, the end of the pass, never comes, and has no name here.
 #![tactic(auto)]
 
-pub const ENTRY_LENGTH: u32 = 1;
+ghost use Rattle.std.specs.Prelude.{◌≡◌};
+ghost use Rattle.refusals.specs.Numbers.{number_of, refusal_of, numbered};
 
-pub const LEVEL_TABLE: u32 = 2;
+// What a call is refused for.
+#[derive(Clone, Copy, Debug, PartialEq, Eq)]
+pub enum Refusal {
+    EntryLength = 1,
+    LevelTable = 2,
+    Chains = 3,
+    Docket = 4,
+    Clock = 5,
+    Settings = 6,
+    Full = 7,
+    Line = 9,
+    Date = 10,
+}
 
-pub const CHAINS: u32 = 3;
+impl Refusal {
+    // Its number in the table of refusals.
+    pub fn number(self) -> u32
+        ensures { result ≡ number_of self }
+    {
+        self as u32
+    }
+}
 
-pub const DOCKET: u32 = 4;
+// The number with which a call answers that tells nothing else: 0 where it is not refused.
+pub fn refusal_number(answer: Result<(), Refusal>) -> u32
+    ensures { result ≡ refusal_of answer }
+{
+    match answer {
+        Ok(()) => 0,
+        Err(refusal) => refusal.number(),
+    }
+}
 
-pub const CLOCK: u32 = 5;
-
-pub const SETTINGS: u32 = 6;
-
-pub const FULL: u32 = 7;
-
-pub const LINE: u32 = 9;
-
-pub const DATE: u32 = 10;
+// The same answer with the number in the refusal's place.
+pub fn numbered<T>(answer: Result<T, Refusal>) -> Result<T, u32>
+    ensures { result ≡ numbered answer }
+{
+    match answer {
+        Ok(found) => Ok(found),
+        Err(refusal) => Err(refusal.number()),
+    }
+}

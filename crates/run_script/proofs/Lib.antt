@@ -1,3 +1,2 @@
--- Room that stays, and turns that follow each other.
-pub mod Serves
+-- Turns that follow each other.
 pub mod Runs

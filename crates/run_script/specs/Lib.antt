@@ -1,3 +1,2 @@
--- The room that the program needs, and what a turn of its loop makes of where the script stands.
-pub mod Served
+-- What a turn of the program's loop makes of where the script stands.
 pub mod Turns

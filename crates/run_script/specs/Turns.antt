@@ -1,13 +1,7 @@
 -- What a turn of the program's loop, and the whole loop, make of where the script stands. Of standard input no contract says which bytes it gives.
 use Rattle.std.specs.Prelude.{◌≡◌, Bool, true, false, cond, List, [], ◌∷◌, ℕ, ◌≤◌, eqb, length, take}
 use Rattle.script_buffer.specs.Bytes.{Standing}
-use Rattle.script_buffer.specs.Room.{standing}
 use Rattle.script_stream.specs.Blocks.{fed, finished, written}
-use Rattle.run_script.specs.declared.Served.{Served}
-use Rattle.run_script.specs.Served.{between}
-
-abbrev pub stands : List ℕ → List ℕ → List ℕ → List ℕ → Served → Standing
-stands e l line output m = standing e l line output (between m)
 
 -- So many bytes were read to the start of the input's room: a block, or none, which is the end of the input; and what was printed was written out.
 -- The script goes on only after a block.

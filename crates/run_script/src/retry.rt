@@ -1,5 +1,6 @@
 // Standard input and output, where a call that a signal stopped, or that would have to wait, is made again. A proved loop has to
-// end: it counts its tries down from a number that no run uses up.
+// end: it counts its tries down from a number that no run uses up. Reading and writing stay two loops: a shared one would have to be
+// told, try by try, what a closure leaves of a reader or a writer. The handle stands beside them, as in std's calls.
 ghost use Rattle.std.specs.Prelude.{◌≡◌, ◌⊎◌, ◌+◌, ◌≤◌, ◌<◌, IsTrue, length, take};
 ghost use Rattle.std.specs.Io.KnownBytes.{Appends, Consumes};
 ghost use Rattle.std.specs.IoError.{error_kind};
@@ -30,7 +31,8 @@ pub fn read_block<R: Read>(rt: &(impl Clock + Eprint), reader: &mut R, input: &m
     0
 }
 
-// Writes out all of the bytes and answers true, or says on standard error that they were cut.
+// Writes out all of the bytes and answers true, or says on standard error that they were cut. Each turn goes on by as many bytes as
+// the writer took, which no iterator tells.
 pub fn write_all<W: Write>(rt: &(impl Clock + Eprint), writer: &mut W, bytes: &[u8]) -> bool
     ensures all { IsTrue result → Appends (W.contents writer.old) (W.contents writer.new) bytes.now }
 {
@@ -62,7 +64,8 @@ fn write_some<W: Write>(rt: &impl Clock, writer: &mut W, bytes: &[u8]) -> usize
     writer.write(bytes).unwrap_or(0)
 }
 
-// How many tries are left after one that failed: one fewer, after a pause, or none where waiting does not help.
+// How many tries are left after one that failed: one fewer, after a pause, or none where waiting does not help. The tries are counted
+// by hand, and not by a `for`, since the clauses `fewer` and `again` say of a single failure how many are left.
 fn tries_left(rt: &impl Clock, tries: u64, error: &Error) -> u64
     requires { 0 < tries }
     ensures fewer { result < tries }

@@ -15,9 +15,8 @@ use Rattle.model.proofs.Scans.{live_listed}
 use Rattle.tables.specs.Placed.{read_state, read_counts}
 use Rattle.scan.specs.declared.Row.{Row}
 use Rattle.scan.specs.declared.CountRow.{CountRow}
-use Rattle.scan.specs.declared.Scanned.{Scanned}
 use Rattle.check_refusal.specs.Dockets.{docket_refusal}
-use Rattle.scan.specs.Scan.{scan_as, written, count_written, scan_tables, scan_counts_tables}
+use Rattle.scan.specs.Scan.{Numbers, scan_as, written, count_written, scan_tables, scan_counts_tables}
 use Rattle.check_refusal.proofs.Refusals.{dockets_refuse_low, allowed_high, allowed_order}
 
 module _ {A : Type 0} where
@@ -48,7 +47,7 @@ module _ {A : Type 0} where
           first_key_low (suc hi) (omega arith) room (live look lo hi)
           (all_weaken _ _ (λ r l. l.high) (live look lo hi) (live_listed look lo hi order))
 
-abbrev pub AnswerLow : Scanned → Type 0
+abbrev pub AnswerLow : Numbers → Type 0
 AnswerLow a = (a.count ≤ 65536) × (a.next ≤ 65535) × (a.refusal ≤ 4)
 
 pub low_as : {A R : Type 0} (written : model.Row A → R) (look : ℕ → Found A) (e l : List ℕ) (lo hi : ℕ) (rows : List R)

@@ -12,16 +12,18 @@ use Rattle.check_refusal.specs.Dockets.{docket_refusal}
 use Rattle.lookup.proofs.Counts.{counts_found}
 use Rattle.scan.specs.declared.Row.{Row}
 use Rattle.scan.specs.declared.CountRow.{CountRow}
-use Rattle.scan.specs.Scan.{filled, unfilled, scan_as, written, scan_tables, count_written, scan_counts_tables, without_price, without_prices}
+use Rattle.scan.specs.Scan.{filled, unfilled, scan_state, written, scan_tables, count_written, scan_counts_tables, without_price, without_prices}
+use Rattle.scan.specs.Rows.{counted}
 use Rattle.scan.proofs.Natural.{scan_as_map}
 
--- A live docket's row as the grower's, from the hall's reading of it.
-abbrev pub counted : model.Row Tally → CountRow
-counted r = without_price (written r)
+-- The hall's scan is that of the state.
+pub rows_as : (e l : List ℕ) (lo hi : ℕ) (rows : List Row) → scan_state written e l lo hi rows ≡ scan_tables e l lo hi rows
+unfolding scan_tables
+rows_as e l lo hi rows = refl
 
 -- The scan of the counts writes the hall's live dockets, their prices left out.
 pub counts_as : (e l : List ℕ) (lo hi : ℕ) (rows : List CountRow)
-    → scan_as counted (docket_refusal e l lo hi) (model.lookup (read_state e l).levels) lo hi rows ≡ scan_counts_tables e l lo hi rows
+    → scan_state counted e l lo hi rows ≡ scan_counts_tables e l lo hi rows
 unfolding scan_counts_tables
 counts_as e l lo hi rows =
     sym (scan_as_map (λ (a : Tally). a.count) (model.lookup (read_state e l).levels) (model.lookup (read_counts e l).levels) (counts_found e l)

@@ -18,7 +18,8 @@ use Rattle.scan.specs.declared.Row.{Row}
 use Rattle.scan.specs.declared.CountRow.{CountRow}
 use Rattle.check_refusal.specs.Dockets.{docket_refusal}
 use Rattle.scan.specs.Scan.{filled, unfilled, scan_as, written, count_written, scan_tables, scan_counts_tables}
-use Rattle.scan.proofs.Counts.{counted, counts_as}
+use Rattle.scan.specs.Rows.{counted}
+use Rattle.scan.proofs.Counts.{counts_as}
 
 -- However its rows are written.
 refused_as : {A R : Type 0} (written : model.Row A → R) (n : ℕ) (look : ℕ → model.Found A) (lo hi : ℕ) (rows : List R)

@@ -1,3 +1,3 @@
--- What a scan answers, and the rows that it leaves; how its sweep goes.
+-- What a scan answers, and the rows that it leaves.
 pub mod Scan
-pub mod Sweeps
+pub mod Rows

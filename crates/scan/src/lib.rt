@@ -2,18 +2,32 @@
 #![tactic(auto)]
 
 ghost use Rattle.std.specs.Prelude.{◌≡◌};
+ghost use Rattle.model.specs.declared.Tally.{Tally};
+ghost use Rattle.model.specs.Lookup as model;
+ghost use Rattle.std.specs.Option.{option_map};
 ghost use Rattle.tables.specs.Slots.{InTable};
-ghost use Rattle.check_refusal.specs.Dockets.{docket_refusal};
-ghost use Rattle.scan_step.specs.Sweeps.{Sweeping, rest, rows_from};
-ghost use Rattle.scan.specs.Scan.{scan_tables, scan_counts_tables};
-ghost use Rattle.scan.specs.Sweeps.{Opened, row_at, count_row_at, has_row, closed};
+ghost use Rattle.scan_step.specs.Sweeps.{live_of};
+ghost use Rattle.scan.specs.Scan.{numbers, scan_state, written};
+ghost use Rattle.scan.specs.Rows.{row_in, counted};
 
-use check_refusal::docket_refusal;
-use scan_step::{ARRIVED, SEARCHING, Sweep, near, stand};
-use scan_sweep::{advance, ended, search, set_out};
+use check_refusal::check_dockets;
+use refusals::Refusal;
+use scan_step::{Live, Sweep};
+use scan_sweep::{advance, search, set_out};
 use table_slots::{count_of, stamp_of, tally_of};
 
-// A live docket, its count, its price and its stamp.
+// A row of a scan's list, and what it shows of a live docket.
+pub trait Listed: Copy {
+    // A live docket's row, as it is written.
+    ghost shown: { model.Row Tally → Self };
+
+    // The row of the live docket whose put is in the slot.
+    fn of(entries: &[u32], live: Live) -> Self
+        requires { InTable entries.now live.slot }
+        ensures { result ≡ shown (row_in entries.now live) };
+}
+
+// A live docket, its count, its price and its stamp, as C lays them out.
 #[repr(C)]
 #[derive(Clone, Copy)]
 pub struct Row {
@@ -21,6 +35,21 @@ pub struct Row {
     pub count: u32,
     pub price: u32,
     pub stamp: u32,
+}
+
+impl Listed for Row {
+    ghost shown = { written };
+
+    fn of(entries: &[u32], live: Live) -> Row {
+        let tally = tally_of(entries, live.slot);
+        let stamp = stamp_of(entries, live.slot);
+        Row {
+            docket: live.docket,
+            count: tally.count,
+            price: tally.price,
+            stamp,
+        }
+    }
 }
 
 // The same for the grower: a live docket, its count and its stamp.
@@ -32,146 +61,57 @@ pub struct CountRow {
     pub stamp: u32,
 }
 
-// What a scan answers: the number of its refusal or 0, how many rows it filled, whether there are more live dockets, and the next one.
+impl Listed for CountRow {
+    ghost shown = { counted };
+
+    // No price is read for it.
+    fn of(entries: &[u32], live: Live) -> CountRow {
+        CountRow {
+            docket: live.docket,
+            count: count_of(entries, live.slot),
+            stamp: stamp_of(entries, live.slot),
+        }
+    }
+}
+
+// What a scan answers: how many rows it filled, and the next live docket where there are more.
 #[derive(Clone, Copy)]
 pub struct Scanned {
-    pub refusal: u32,
     pub count: usize,
-    pub more: bool,
-    pub next: u32,
+    pub next: Option<u32>,
 }
 
-// Fills the rows with the live dockets from lo to hi, ascending: each row comes from a step of its own.
-pub fn scan(entries: &[u32], levels: &[u32], lo: u32, hi: u32, rows: &mut [Row]) -> Scanned
-    ensures { record { answer = result; rows = rows.new } ≡ scan_tables entries.now levels.now lo hi rows.old }
-{
-    let refusal = docket_refusal(entries, levels, lo, hi);
-    let mut m = open(entries, levels, lo, hi, refusal);
-    let mut i = 0;
-    while goes_on(m, i, rows.len()) {
-        rows[i] = row_of(entries, m);
-        m = next(entries, m);
-        i += 1;
-    }
-    close(m, i, refusal)
-}
-
-// The same over the grower's rows: the code differs in the rows alone.
-pub fn scan_counts(
+// Fills the rows with the live dockets from lo to hi, ascending: each row comes from a step of its own. The two tables stay two slices, as
+// C lends them.
+pub fn scan<R: Listed>(
     entries: &[u32],
     levels: &[u32],
     lo: u32,
     hi: u32,
-    rows: &mut [CountRow],
-) -> Scanned
-    ensures { record { answer = result; rows = rows.new } ≡ scan_counts_tables entries.now levels.now lo hi rows.old }
+    rows: &mut [R],
+) -> Result<Scanned, Refusal>
+    ensures { record { answer = numbers result; rows = rows.new } ≡ scan_state R.shown entries.now levels.now lo hi rows.old }
 {
-    let refusal = docket_refusal(entries, levels, lo, hi);
-    let mut m = start(entries, levels, lo, hi, refusal);
-    let mut i = 0;
-    while goes_on(m, i, rows.len()) {
-        rows[i] = count_row_of(entries, m);
-        m = seek(entries, m);
-        i += 1;
-    }
-    close(m, i, refusal)
-}
-
-// Comes to the first live docket, or to none where the scan is refused.
-fn open(entries: &[u32], levels: &[u32], lo: u32, hi: u32, refusal: u32) -> Sweep
-    requires { refusal ≡ docket_refusal entries.now levels.now lo hi }
-    ensures { Opened entries.now levels.now lo hi result }
-{
-    if refusal == 0 {
-        return search(entries, set_out(entries, levels, lo, hi));
-    }
-    ended()
-}
-
-// The same for the grower: called from two scans it would be compiled into neither, so its steps stand here again.
-fn start(entries: &[u32], levels: &[u32], lo: u32, hi: u32, refusal: u32) -> Sweep
-    requires { refusal ≡ docket_refusal entries.now levels.now lo hi }
-    ensures { Opened entries.now levels.now lo hi result }
-{
-    if refusal == 0 {
-        return search(entries, set_out(entries, levels, lo, hi));
-    }
-    ended()
-}
-
-// Comes to the next live docket.
-fn next(entries: &[u32], m: Sweep) -> Sweep
-    requires { Sweeping entries.now m }
-    ensures sweeping { Sweeping entries.now result }
-    ensures result_value { rows_from entries.now result ≡ rest entries.now m }
-{
-    advance(entries, m)
-}
-
-// The same for the grower: called from two loops, an advance would be compiled into neither, so its steps stand here again.
-fn seek(entries: &[u32], m: Sweep) -> Sweep
-    requires { Sweeping entries.now m }
-    ensures sweeping { Sweeping entries.now result }
-    ensures result_value { rows_from entries.now result ≡ rest entries.now m }
-{
-    let r = near(entries, m);
-    if r.going == ARRIVED {
-        return r;
-    }
-    stand(search(entries, stand(r, SEARCHING)), ARRIVED)
-}
-
-// Whether there is a live docket and a row for it.
-fn goes_on(m: Sweep, filled: usize, rows: usize) -> bool
-    ensures { result ≡ has_row m filled rows }
-{
-    m.live == 1 && filled < rows
-}
-
-// The row of the live docket that the sweep has come to.
-fn row_of(entries: &[u32], m: Sweep) -> Row
-    requires { InTable entries.now m.slot }
-    ensures { result ≡ row_at entries.now m }
-{
-    let tally = tally_of(entries, m.slot);
-    let stamp = stamp_of(entries, m.slot);
-    Row {
-        docket: m.key,
-        count: tally.count,
-        price: tally.price,
-        stamp: stamp,
-    }
-}
-
-// The grower's row of it, which no price is read for.
-fn count_row_of(entries: &[u32], m: Sweep) -> CountRow
-    requires { InTable entries.now m.slot }
-    ensures { result ≡ count_row_at entries.now m }
-{
-    let slot = m.slot;
-    CountRow {
-        docket: m.key,
-        count: count_of(entries, slot),
-        stamp: stamp_of(entries, slot),
-    }
-}
-
-// The answer: a live docket that found no row is the next.
-fn close(m: Sweep, count: usize, refusal: u32) -> Scanned
-    ensures { result ≡ closed m count refusal }
-{
-    if m.live == 1 {
-        return Scanned {
-            refusal: refusal,
-            count: count,
-            more: true,
-            next: m.key,
+    check_dockets(entries, levels, lo, hi)?;
+    let room = rows.len();
+    let mut m = search(entries, set_out(entries, levels, lo, hi));
+    for (count, row) in rows.iter_mut().enumerate() {
+        let Some(live) = m.live() else {
+            return Ok(Scanned { count, next: None });
         };
+        *row = R::of(entries, live);
+        m = advance(entries, m);
     }
-    Scanned {
-        refusal: refusal,
-        count: count,
-        more: false,
-        next: 0,
-    }
+    Ok(Scanned {
+        count: room,
+        next: next_docket(m),
+    })
+}
+
+// The docket that a scan goes on from: the one that the sweep has come to.
+#[inline(always)]
+fn next_docket(m: Sweep) -> Option<u32>
+    ensures { result ≡ option_map (λ live. live.docket) (live_of m) }
+{
+    m.live().map(|live| live.docket)
 }

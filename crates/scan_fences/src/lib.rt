@@ -1,12 +1,12 @@
 // The ranges that levels still have to come: the latest date of those over a docket, how deep it is found, and up to where that is so.
 #![tactic(auto)]
 
-ghost use Rattle.std.specs.Prelude.{◌≡◌, ◌≤◌, min};
+ghost use Rattle.std.specs.Prelude.{◌≡◌, ◌≤◌};
 ghost use Rattle.scan_fences.specs.Fences.{Ready, sees, surveyed};
 
 use chain_cover::{Front, Latest, advance, front_latest};
 
-// Past the last docket, and that.
+// Past the last docket, and that. A number, and no Option, since it stands in order behind every docket.
 const NO_FENCE: u32 = 65536;
 
 const LAST_DOCKET: u32 = 65535;
@@ -30,7 +30,8 @@ struct Seen {
     next: u32,
 }
 
-// Passes ranges that end before the docket, in each level, and asks it for the docket. The front of level i stands at 2 × i and behind it.
+// Passes ranges that end before the docket, in each level, and asks it for the docket. The front of level i stands at 2 × i and behind it: in
+// pairs the ranges would no longer be any list of numbers that has room, which the clause `ready` takes.
 pub fn survey(e: &[u32], ranges: &mut [u32], levels: usize, docket: u32) -> Cover
     requires ready { Ready e.now ranges.old levels }
     requires docket_bound { docket ≤ 65535 }
@@ -42,26 +43,20 @@ pub fn survey(e: &[u32], ranges: &mut [u32], levels: usize, docket: u32) -> Cove
         last: LAST_DOCKET,
         next: NO_FENCE,
     };
-    let mut i = 0;
-    while i < levels {
+    for i in 0..levels {
         let at = 2 * i;
         let first = ranges[at] as usize;
         let behind = ranges[at + 1] as usize;
-        let before = Front {
-            first: first,
-            behind: behind,
-        };
-        let f = advance(e, before, docket);
+        let f = advance(e, Front { first, behind }, docket);
         ranges[at] = f.first as u32;
         ranges[at + 1] = f.behind as u32;
         let l = front_latest(e, f, docket);
-        i += 1;
-        seen = see(seen, i as u32, l);
+        seen = see(seen, i as u32 + 1, l);
     }
     Cover {
         date: seen.date,
         depth: seen.depth,
-        fence: lesser(seen.next, seen.last + 1),
+        fence: seen.next.min(seen.last + 1),
     }
 }
 
@@ -69,25 +64,15 @@ pub fn survey(e: &[u32], ranges: &mut [u32], levels: usize, docket: u32) -> Cove
 fn see(s: Seen, depth: u32, l: Latest) -> Seen
     ensures { result ≡ sees s depth l }
 {
-    let next = lesser(s.next, l.next);
+    let next = s.next.min(l.next);
     if s.date < l.date {
-        return Seen {
+        Seen {
             date: l.date,
-            depth: depth,
+            depth,
             last: l.last,
-            next: next,
-        };
+            next,
+        }
+    } else {
+        Seen { next, ..s }
     }
-    Seen {
-        date: s.date,
-        depth: s.depth,
-        last: s.last,
-        next: next,
-    }
-}
-
-fn lesser(a: u32, b: u32) -> u32
-    ensures { result ≡ min a b }
-{
-    if a < b { a } else { b }
 }

@@ -1,5 +1,4 @@
 -- Laws of heads.
-pub mod Leads
 pub mod Packs
 pub mod Inserts
 pub mod Points

@@ -19,10 +19,13 @@ use Rattle.chain_cover.specs.Walks.{Ordered}
 use Rattle.chain_cover.proofs.Chains.{On, chain_end, go_on, shorter}
 use Rattle.scan_heads.specs.declared.Heads.{Heads}
 use Rattle.scan_heads.specs.Heads.{key_from, head_at, key_of, level_of, slot_of, insert, others, heads_of, sunk, led, passed, point_in, times_in, point, left, Head, Rising, Fits}
-use Rattle.scan_heads.proofs.Leads.{kept}
 use Rattle.scan_heads.proofs.Packs.{key_bound, key_some, key_none, key_next, head_key, head_level, head_slot}
 use Rattle.scan_heads.proofs.Inserts.{sum-insert, all_insert, rising_above, rising_insert}
 use Rattle.scan_heads.proofs.Points.{point_none, point_has}
+
+-- The same level stays ahead, at slot s.
+abbrev kept : Heads → ℕ → ℕ → Heads
+kept a h s = record { slot = s; first = h; h1 = a.h1; h2 = a.h2; h3 = a.h3; h4 = a.h4; h5 = a.h5; h6 = a.h6 }
 
 pub none_ordered : (e : List ℕ) → Ordered e 0
 unfolding ascend

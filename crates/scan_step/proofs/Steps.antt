@@ -20,7 +20,7 @@ use Rattle.scan_fences.specs.Fences.{ranges_in}
 use Rattle.scan_step.specs.declared.Sweep.{Sweep}
 use Rattle.scan_step.specs.Sweeps.{to_come, next_key, next_level, date_above, is_hidden, Sweeping, told, standing, moved, gone, doubtful, neared, rest, listed, steps_ahead, Stepped}
 use Rattle.scan_step.proofs.Branches.{gone_before, gone_hidden, gone_delete, gone_found, undoubted, neared_stands, neared-gone}
-use Rattle.scan_step.proofs.Live.{live_same, live_none, live_pass}
+use Rattle.scan_step.proofs.LiveRows.{live_same, live_none, live_pass}
 use Rattle.scan_step.proofs.Coming.{points_before, absent_all, found_at, looks_same, decides_same}
 
 -- The same to come, whether the sweep is on its way or has come to a docket.

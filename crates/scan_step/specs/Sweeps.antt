@@ -1,5 +1,5 @@
 -- A sweep over the levels: what it still has to come, the rows of the live dockets among it, and a step.
-use Rattle.std.specs.Prelude.{◌≡◌, ◌≢◌, Bool, true, cond, ◌||◌, not, List, [], ◌∷◌, map, ℕ, zero, suc, ◌+◌, ◌*◌, ◌<◌, ◌≤◌, eqb, leb, ltb}
+use Rattle.std.specs.Prelude.{◌≡◌, ◌≢◌, Option, None, Some, Bool, true, cond, ◌||◌, not, List, [], ◌∷◌, map, ℕ, zero, suc, ◌+◌, ◌*◌, ◌<◌, ◌≤◌, eqb, leb, ltb}
 use Rattle.model.specs.declared.Tally.{Tally}
 use Rattle.model.specs.Lookup.{Row, lookup, live}
 use Rattle.model.specs.Records.{Level}
@@ -10,6 +10,7 @@ use Rattle.scan_heads.specs.declared.Heads.{Heads}
 use Rattle.scan_heads.specs.Heads.{key_of, level_of, passed, point, left, Fits}
 use Rattle.scan_fences.specs.Fences.{ranges_in, Ready, levels_latest, Covering}
 use Rattle.scan_step.specs.declared.Sweep.{Sweep}
+use Rattle.scan_step.specs.declared.Live.{Live}
 
 -- A level that has the points from slot p on to come, and the ranges at some slots.
 abbrev pub coming_level : List ℕ → ℕ → List ℕ → Level ℕ Tally
@@ -42,6 +43,10 @@ is_hidden e m = leb (stamp_of e m.heads.slot) (date_above e m)
 -- Whether the sweep has come to a live docket.
 abbrev pub is_live : Sweep → Bool
 is_live m = eqb m.live 1
+
+-- That docket, and the slot of its put.
+abbrev pub live_of : Sweep → Option Live
+live_of m = cond (is_live m) (Some (record { docket = m.key; slot = m.slot })) None
 
 -- The heads are those of the levels, the ranges can be followed, the fence lies no farther than past hi, and before it the date is the latest over a docket to come
 -- of as many levels as it takes; the live docket's slot is in the table.

@@ -13,7 +13,7 @@ use Rattle.scan_fences.specs.Fences.{ranges_in}
 use Rattle.scan_fences.proofs.Surveys.{Viewed, viewed}
 use Rattle.scan_step.specs.declared.Sweep.{Sweep}
 use Rattle.scan_step.specs.Sweeps.{to_come, next_key, Sweeping, told, gone, Stepped}
-use Rattle.scan_step.proofs.Live.{live_same}
+use Rattle.scan_step.proofs.LiveRows.{live_same}
 use Rattle.scan_step.proofs.Coming.{looks_same, decides_same}
 use Rattle.scan_step.proofs.Steps.{nothing_before, stepped_none, gone_stepped}
 use Rattle.scan_sweep.specs.Sweeps.{view_of, crossed, step_of}

@@ -27,7 +27,7 @@ use Rattle.scan_heads.proofs.Opening.{Opened, opened_none, opened_next, opened_f
 use Rattle.scan_fences.specs.Fences.{front_in, put_front, ranges_in, slots_latest}
 use Rattle.scan_fences.proofs.Levels.{put_length, put_same, put_other}
 use Rattle.scan_step.specs.Sweeps.{levels_from, to_come, Sweeping, rest}
-use Rattle.scan_step.proofs.Live.{live_same}
+use Rattle.scan_step.proofs.LiveRows.{live_same}
 use Rattle.scan_step.proofs.Coming.{beginning_says, looks_same, decides_same}
 use Rattle.scan_sweep.specs.Sweeps.{first_from, opened_heads, opened_ranges, opened}
 

@@ -28,23 +28,6 @@ opened e l lo hi =
     let n = (settings_of l).deepest + 1 in
     record { heads = opened_heads e l lo n; ranges = opened_ranges e l n; levels = n; cover = 0; date = 0; fence = 0; from = lo; hi = hi; going = 1; live = 0; key = 0; slot = 0 }
 
--- A sweep that has come to its end.
-abbrev pub over : Sweep
-over = record {
-  heads = record { slot = 0; first = 0; h1 = 0; h2 = 0; h3 = 0; h4 = 0; h5 = 0; h6 = 0 };
-  ranges = replicate 14 0;
-  levels = 0;
-  cover = 0;
-  date = 0;
-  fence = 0;
-  from = 0;
-  hi = 0;
-  going = 0;
-  live = 0;
-  key = 0;
-  slot = 0;
-}
-
 -- The ranges were surveyed; the fence lies no farther than past hi.
 abbrev pub viewing : Sweep → View → Sweep
 viewing m v = record {

@@ -2,14 +2,14 @@
 // and the least is next.
 #![tactic(auto)]
 
-ghost use Rattle.std.specs.Prelude.{◌≡◌, ◌<◌, ◌≤◌, min};
+ghost use Rattle.std.specs.Prelude.{◌≡◌, ◌<◌, ◌≤◌};
 ghost use Rattle.lookup_level.specs.Readable.{Readable};
 ghost use Rattle.scan_step.specs.Sweeps.{next_key, date_above, is_hidden, told, Sweeping};
-ghost use Rattle.scan_sweep.specs.Sweeps.{opened, over, crossed, step_of, searched, advanced};
+ghost use Rattle.scan_sweep.specs.Sweeps.{opened, crossed, step_of, searched, advanced};
 
 use chain_cover::{front_at, seek};
 use scan_fences::survey;
-use scan_heads::{Heads, head, key_of, level_of, nothing, push};
+use scan_heads::{head, key_of, level_of, nothing, push};
 use scan_step::{ARRIVED, SEARCHING, Sweep, go, near, stand};
 use table_levels::{deepest_of, level_at};
 use table_slots::stamp_of;
@@ -22,25 +22,23 @@ pub fn set_out(e: &[u32], l: &[u32], lo: u32, hi: u32) -> Sweep
     let levels = deepest_of(l) + 1;
     let mut heads = nothing();
     let mut ranges = [0u32; 14];
-    let mut i = 0;
-    while i < levels {
+    for i in 0..levels {
         let row = level_at(l, i);
         heads = push(heads, head(e, i, seek(e, row.points, lo)));
         let f = front_at(e, row.ranges);
         let at = 2 * i;
         ranges[at] = f.first as u32;
         ranges[at + 1] = f.behind as u32;
-        i += 1;
     }
     Sweep {
-        heads: heads,
-        ranges: ranges,
-        levels: levels,
+        heads,
+        ranges,
+        levels,
         cover: 0,
         date: 0,
         fence: 0,
         from: lo,
-        hi: hi,
+        hi,
         going: SEARCHING,
         live: 0,
         key: 0,
@@ -48,37 +46,8 @@ pub fn set_out(e: &[u32], l: &[u32], lo: u32, hi: u32) -> Sweep
     }
 }
 
-// A sweep that has come to its end.
-pub fn ended() -> Sweep
-    ensures { result ≡ over }
-{
-    let heads = Heads {
-        slot: 0,
-        first: 0,
-        h1: 0,
-        h2: 0,
-        h3: 0,
-        h4: 0,
-        h5: 0,
-        h6: 0,
-    };
-    Sweep {
-        heads: heads,
-        ranges: [0; 14],
-        levels: 0,
-        cover: 0,
-        date: 0,
-        fence: 0,
-        from: 0,
-        hi: 0,
-        going: ARRIVED,
-        live: 0,
-        key: 0,
-        slot: 0,
-    }
-}
-
 // Comes to the next live docket: mostly by one step, which is compiled into the caller's loop.
+#[inline(always)]
 pub fn advance(e: &[u32], m: Sweep) -> Sweep
     requires { Sweeping e.now m }
     ensures { result ≡ advanced e.now m }
@@ -91,13 +60,15 @@ pub fn advance(e: &[u32], m: Sweep) -> Sweep
     stand(search(e, stand(r, SEARCHING)), ARRIVED)
 }
 
-// Goes on, record by record, to the next live docket; from where it set out, to the first.
+// Goes on, record by record, to the next live docket; from where it set out, to the first. No index is counted: it ends where it has arrived.
 pub fn search(e: &[u32], m: Sweep) -> Sweep
     requires { Sweeping e.now m }
     ensures { result ≡ searched e.now m }
 {
-    let mut r = m;
-    r.going = SEARCHING;
+    let mut r = Sweep {
+        going: SEARCHING,
+        ..m
+    };
     while r.going != ARRIVED {
         r = step(e, r);
     }
@@ -111,12 +82,12 @@ fn step(e: &[u32], m: Sweep) -> Sweep
 {
     let key = key_of(m.heads.first);
     if m.hi < key {
-        return none(m);
+        none(m)
+    } else if m.fence <= key {
+        cross(e, m)
+    } else {
+        go(e, m, is_hidden(e, m))
     }
-    if m.fence <= key {
-        return cross(e, m);
-    }
-    go(e, m, is_hidden(e, m))
 }
 
 // The ranges are surveyed for the docket of the first record, which then lies before the fence.
@@ -127,13 +98,15 @@ fn cross(e: &[u32], m: Sweep) -> Sweep
 {
     let mut ranges = m.ranges;
     let cover = survey(e, &mut ranges, m.levels, key_of(m.heads.first));
-    let mut r = m;
-    r.ranges = ranges;
-    r.cover = cover.depth;
-    r.date = cover.date;
-    r.fence = lesser(cover.fence, m.hi + 1);
-    r.going = SEARCHING;
-    r
+    let fence = cover.fence.min(m.hi + 1);
+    Sweep {
+        ranges,
+        cover: cover.depth,
+        date: cover.date,
+        fence,
+        going: SEARCHING,
+        ..m
+    }
 }
 
 // Whether a level above the first record's has a range over its docket whose date is no earlier than its stamp. The latest date before
@@ -147,10 +120,7 @@ fn is_hidden(e: &[u32], m: Sweep) -> bool
     if m.date < stamp {
         return false;
     }
-    if m.cover as usize <= level_of(m.heads.first) {
-        return true;
-    }
-    stamp <= latest_above(e, m)
+    m.cover as usize <= level_of(m.heads.first) || stamp <= latest_above(e, m)
 }
 
 // The levels above the first record's are asked for its docket.
@@ -159,10 +129,13 @@ fn latest_above(e: &[u32], m: Sweep) -> u32
     requires m_bound { next_key m ≤ m.hi }
     ensures { result ≡ date_above e.now m }
 {
-    let level = level_of(m.heads.first);
-    let key = key_of(m.heads.first);
     let mut ranges = m.ranges;
-    let above = survey(e, &mut ranges, level, key);
+    let above = survey(
+        e,
+        &mut ranges,
+        level_of(m.heads.first),
+        key_of(m.heads.first),
+    );
     above.date
 }
 
@@ -170,14 +143,9 @@ fn latest_above(e: &[u32], m: Sweep) -> u32
 fn none(m: Sweep) -> Sweep
     ensures { result ≡ told m 0 0 m.key m.slot }
 {
-    let mut r = m;
-    r.going = ARRIVED;
-    r.live = 0;
-    r
-}
-
-fn lesser(a: u32, b: u32) -> u32
-    ensures { result ≡ min a b }
-{
-    if a < b { a } else { b }
+    Sweep {
+        going: ARRIVED,
+        live: 0,
+        ..m
+    }
 }

@@ -4,15 +4,14 @@ use mathlib.Core.List.{List, ◌++◌}
 use Prim.Native.Nat.{ℕ, ◌≤◌}
 use lib.ListN.{length, take-append-drop}
 use lib.Seq.{length-take-le}
-use Rattle.script_buffer.specs.declared.Progress.{Progress}
 use Rattle.script_buffer.specs.Bytes.{Standing}
-use Rattle.script_buffer.specs.Room.{standing}
+use Rattle.script_buffer.specs.Room.{Progress, standing}
 
-abbrev progress_of : Standing → Progress
-progress_of s = record { slots = s.memory.slots; deepest = s.memory.deepest; length = length s.line; waiting = length s.waiting }
+abbrev told : Standing → Progress
+told s = record { slots = s.memory.slots; deepest = s.memory.deepest; length = length s.line; waiting = length s.waiting }
 
 -- What is kept and what waits lie within their room.
-progress_told : (e l line output : List ℕ) (m : Progress) → m.length ≤ length line → m.waiting ≤ length output → progress_of (standing e l line output m) ≡ m
+progress_told : (e l line output : List ℕ) (m : Progress) → m.length ≤ length line → m.waiting ≤ length output → told (standing e l line output m) ≡ m
 progress_told e l line output m kept waits = rw (length-take-le m.length line kept, length-take-le m.waiting output waits)
 
 module _ (e l line output e' l' line' output' : List ℕ) (m m' : Progress) (same : standing e l line output m ≡ standing e' l' line' output' m') where
@@ -27,4 +26,4 @@ module _ (e l line output e' l' line' output' : List ℕ) (m m' : Progress) (sam
 
   pub same_progress : m.length ≤ length line → m'.length ≤ length line' → m.waiting ≤ length output → m'.waiting ≤ length output' → m ≡ m'
   same_progress kept kept' waits waits' =
-      sym (progress_told e l line output m kept waits) ∙ ap progress_of same ∙ progress_told e' l' line' output' m' kept' waits'
+      sym (progress_told e l line output m kept waits) ∙ ap told same ∙ progress_told e' l' line' output' m' kept' waits'

@@ -1,97 +1,64 @@
 // A line of the script as its bytes come in, and its end: the line is carried out, and what it prints waits to be written out.
 #![tactic(auto)]
 
-ghost use Rattle.std.specs.Prelude.{◌≡◌, ◌+◌, ◌≤◌, length, take, drop};
-ghost use Rattle.script_buffer.specs.Bytes.{kept, taken, ended};
-ghost use Rattle.script_buffer.specs.Room.{Ready, standing};
+ghost use Rattle.std.specs.Prelude.{◌≡◌, ◌+◌, ◌≤◌};
+ghost use Rattle.script_store.specs.Stores.{memory_of};
+ghost use Rattle.script_command.specs.Cases.{no_store};
+ghost use Rattle.script_buffer.specs.Bytes.{taken, ended};
+ghost use Rattle.script_buffer.specs.Room.{standing_of};
 
+mod buffer;
+
+pub use buffer::Buffer;
 use script_command::run_line;
-use script_prints::print_numbers;
-use script_store::Size;
-
-const LINE_FEED: u8 = 10;
+use script_store::Store;
 
 // How many bytes of a line are kept: a longer one has no form, whatever its other bytes are.
 const LINE_ROOM: usize = 64;
 
-// Where a script stands: how large its store is, how many bytes of a line are kept, and how many printed bytes wait to be written out.
-#[derive(Clone, Copy)]
-pub struct Progress {
-    pub slots: usize,
-    pub deepest: usize,
-    pub length: usize,
-    pub waiting: usize,
+// Where a script stands: its store, the bytes of a line that are kept, and the printed bytes that wait to be written out.
+#[derive(Drop)]
+pub struct Script<const ROOM: usize> {
+    pub store: Store,
+    pub line: Buffer<LINE_ROOM>,
+    pub output: Buffer<ROOM>,
 }
 
-// Takes in one byte: a line feed ends the line, another byte goes on with it.
-pub fn take_byte(
-    byte: u8,
-    entries: &mut [u32],
-    levels: &mut [u32],
-    line: &mut [u8],
-    output: &mut [u8],
-    m: Progress,
-) -> Progress
-    requires ready { Ready entries.old levels.old line.old m }
-    requires waiting_in_bounds { m.waiting + 44 ≤ length output.old }
-    ensures result_after { standing entries.new levels.new line.new output.new result ≡
-        taken byte (standing entries.old levels.old line.old output.old m) }
-    ensures ready_2 { Ready entries.new levels.new line.new result }
-    ensures waiting_bound { result.waiting ≤ m.waiting + 44 }
-{
-    if byte == LINE_FEED {
-        return end_line(entries, levels, line, output, m);
+impl<const ROOM: usize> Script<ROOM> {
+    // No store, no bytes of a line, and none that wait.
+    pub fn new() -> Self
+        ensures memory { memory_of result.store ≡ no_store }
+        ensures no_line { result.line.count ≡ 0 }
+        ensures none_waits { result.output.count ≡ 0 }
+    {
+        Script {
+            store: Store::new(),
+            line: Buffer::new(),
+            output: Buffer::new(),
+        }
     }
-    let length = keep_byte(byte, line, m.length);
-    Progress {
-        slots: m.slots,
-        deepest: m.deepest,
-        length: length,
-        waiting: m.waiting,
-    }
-}
 
-// Ends the line: it is carried out, and what it prints waits after what was printed before.
-pub fn end_line(
-    entries: &mut [u32],
-    levels: &mut [u32],
-    line: &[u8],
-    output: &mut [u8],
-    m: Progress,
-) -> Progress
-    requires ready { Ready entries.old levels.old line.now m }
-    requires waiting_in_bounds { m.waiting + 44 ≤ length output.old }
-    ensures result_after { standing entries.new levels.new line.now output.new result ≡
-        ended (standing entries.old levels.old line.now output.old m) }
-    ensures ready_2 { Ready entries.new levels.new line.now result }
-    ensures waiting_bound { result.waiting ≤ m.waiting + 44 }
-{
-    let size = Size {
-        slots: m.slots,
-        deepest: m.deepest,
-    };
-    let turn = run_line(&line[..m.length], entries, levels, size);
-    let printed = turn.printed;
-    let waiting = print_numbers(output, m.waiting, printed);
-    Progress {
-        slots: turn.slots,
-        deepest: turn.deepest,
-        length: 0,
-        waiting: waiting,
+    // Takes in one byte: a line feed ends the line, another byte goes on with it.
+    pub fn take_byte(&mut self, byte: u8)
+        requires { self.old.output.count + 44 ≤ ROOM }
+        ensures result_after { standing_of self.new ≡ taken byte (standing_of self.old) }
+        ensures waiting_bound { self.new.output.count ≤ self.old.output.count + 44 }
+    {
+        if byte == b'\n' {
+            self.end_line();
+        } else {
+            self.line.keep(byte);
+        }
     }
-}
 
-// Keeps a byte of a line, if there is room; answers how many are kept.
-fn keep_byte(byte: u8, line: &mut [u8], count: usize) -> usize
-    requires line_len { length line.old ≡ 64 }
-    requires count_bound { count ≤ 64 }
-    ensures upper_bound { result ≤ 64 }
-    ensures line_after { take result line.new ≡ kept (take count line.old) byte }
-    ensures line_after_2 { drop result line.new ≡ drop 1 (drop count line.old) }
-{
-    if count == LINE_ROOM {
-        return count;
+    // Ends the line: it is carried out, and what it prints waits after what was printed before.
+    pub fn end_line(&mut self)
+        requires { self.old.output.count + 44 ≤ ROOM }
+        ensures result_after { standing_of self.new ≡ ended (standing_of self.old) }
+        ensures waiting_bound { self.new.output.count ≤ self.old.output.count + 44 }
+    {
+        let printed = run_line(self.line.as_slice(), &mut self.store);
+        self.output.print(printed);
+        self.line.clear();
     }
-    line[count] = byte;
-    count + 1
 }

@@ -2,8 +2,7 @@
 use mathlib.Core.Path.{◌≡◌, sym, ap, ◌∙◌}
 use mathlib.Core.Bool.{true, false}
 use Rattle.script_lines.specs.declared.Command.{Command}
-use Rattle.script_lines.specs.declared.Line.{Line}
-use Rattle.script_lines.specs.declared.Line.TheVariants.{Is, Unreadable}
+use Rattle.std.specs.Prelude.{Option, Some, None}
 use Rattle.script_store.specs.Memory.{Memory, Stepped, answers_alone}
 use Rattle.script_command.specs.Script.{is_early, carried_out, command_step, line_step}
 
@@ -16,10 +15,10 @@ pub early : (c : Command) (m : Memory) → is_early c m.slots ≡ true → answe
 unfolding command_step
 early c m is-so = rw is-so
 
-pub unreadable : (line : Line) (m : Memory) → line ≡ Unreadable → answers_alone 9 m ≡ line_step line m
+pub unreadable : (line : Option Command) (m : Memory) → line ≡ None → answers_alone 9 m ≡ line_step line m
 unfolding line_step
 unreadable line m is = rw is
 
-pub commanded : (line : Line) (c : Command) (m : Memory) (x : Stepped) → line ≡ Is c → x ≡ command_step c m → x ≡ line_step line m
+pub commanded : (line : Option Command) (c : Command) (m : Memory) (x : Stepped) → line ≡ Some c → x ≡ command_step c m → x ≡ line_step line m
 unfolding line_step
 commanded line c m x is tells = tells ∙ rw is

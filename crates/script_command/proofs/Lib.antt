@@ -1,4 +1,3 @@
--- What a command and a line do, and that the memory has room for it.
+-- What a command and a line do, and the cases.
 pub mod Commands
-pub mod Sizes
 pub mod Cases

@@ -1,4 +1,5 @@
 -- Laws of numbers and blanks as they are read.
+mod Digits
 mod Numbers
-mod Reading
 mod Blanks
+mod Several

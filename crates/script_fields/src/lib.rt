@@ -1,78 +1,81 @@
-// Reads a field of a line: one blank and the number after it.
+// Reads the fields of a line: numbers, each after one blank. A position is handed on beside the line, since an answer tells where its field ends.
 #![tactic(auto)]
 
-ghost use Rattle.std.specs.Prelude.{◌≡◌, drop};
-ghost use Rattle.script_fields.specs.Numbers.{digits};
-ghost use Rattle.script_fields.specs.Fields.{starts_digit, number_of, field_of, last_of};
-
-// The largest number that a field can hold.
-const LARGEST: u64 = 4294967295;
+ghost use Rattle.std.specs.Prelude.{◌≡◌, ◌≤◌, length, drop};
+ghost use Rattle.script_fields.specs.Numbers.{digits, decimal};
+ghost use Rattle.script_fields.specs.Fields.{number_of, field_of, numbers_of};
 
 // The most digits that a number is written in.
 const MOST_DIGITS: usize = 10;
 
-// What is read at a position: a number and the position after it, or none.
+// What is read at a position: a number and the position after it.
 #[derive(Clone, Copy)]
-pub enum Field {
-    Number(u32, usize),
-    Missing,
+pub struct Field {
+    pub number: u32,
+    pub end: usize,
 }
 
-// The last field, after which nothing stands.
-pub fn read_last(text: &[u8], at: usize) -> Field
-    ensures { result ≡ last_of text.now (field_of at (drop at text.now)) }
+// The numbers of so many fields from a position on, after which nothing stands.
+pub fn read_fields<const N: usize>(text: &[u8], start: usize) -> Option<[u32; N]>
+    ensures { result ≡ numbers_of N (drop start text.now) }
 {
-    let Field::Number(number, end) = read_field(text, at) else {
-        return Field::Missing;
-    };
-    if end < text.len() {
-        return Field::Missing;
+    let mut numbers = [0; N];
+    let mut at = start;
+    for number in &mut numbers {
+        let field = read_field(text, at)?;
+        *number = field.number;
+        at = field.end;
     }
-    Field::Number(number, end)
+    if at < text.len() { None } else { Some(numbers) }
 }
 
 // One blank and the number after it.
-pub fn read_field(text: &[u8], at: usize) -> Field
+pub fn read_field(text: &[u8], at: usize) -> Option<Field>
     ensures { result ≡ field_of at (drop at text.now) }
 {
-    if text.len() <= at {
-        return Field::Missing;
+    if *text.get(at)? == b' ' {
+        read_number(text, at + 1)
+    } else {
+        None
     }
-    if text[at] != b' ' {
-        return Field::Missing;
-    }
-    read_number(text, at + 1)
 }
 
-// The digits from a position on, one to ten of them. A u64 holds ten times the largest number, so that nothing wraps.
-fn read_number(text: &[u8], start: usize) -> Field
+// The digits from a position on, one to ten of them.
+fn read_number(text: &[u8], start: usize) -> Option<Field>
     ensures { result ≡ number_of start (digits (drop start text.now)) }
 {
-    let mut value: u64 = 0;
-    let mut at = start;
-    while is_digit(text, at) {
-        if at - start == MOST_DIGITS {
-            return Field::Missing;
-        }
-        value = 10 * value + (text[at] - b'0') as u64;
-        if LARGEST < value {
-            return Field::Missing;
-        }
-        at += 1;
+    let rest = text.get(start..)?;
+    let count = count_digits(rest);
+    if count == 0 || MOST_DIGITS < count {
+        return None;
     }
-    if at == start {
-        return Field::Missing;
-    }
-    Field::Number(value as u32, at)
+    let value = value_of(&rest[..count]);
+    let number = u32::try_from(value).ok()?;
+    Some(Field {
+        number,
+        end: start + count,
+    })
 }
 
-// Whether a digit stands at a position.
-fn is_digit(text: &[u8], at: usize) -> bool
-    ensures { result ≡ starts_digit (drop at text.now) }
+// How many digits the bytes begin with.
+fn count_digits(bytes: &[u8]) -> usize
+    ensures { result ≡ length (digits bytes.now) }
 {
-    if text.len() <= at {
-        return false;
+    bytes
+        .iter()
+        .position(|byte| !byte.is_ascii_digit())
+        .unwrap_or(bytes.len())
+}
+
+// What at most ten digits make. A u64 holds ten times the largest number, so that nothing wraps.
+fn value_of(written: &[u8]) -> u64
+    requires all { digits written.now ≡ written.now }
+    requires few { length written.now ≤ 10 }
+    ensures { result ≡ decimal 0 written.now }
+{
+    let mut value = 0;
+    for digit in written {
+        value = 10 * value + u64::from(*digit - b'0');
     }
-    let byte = text[at];
-    b'0' <= byte && byte <= b'9'
+    value
 }

@@ -1,5 +1,4 @@
--- Laws of fields and letters as they are read, and the table of lines.
-pub mod Fields
-pub mod Letters
+-- Lines by their letters and their numbers, the longest line, and the tables.
+mod Forms
 pub mod Long
 pub mod Cases

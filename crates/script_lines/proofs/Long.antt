@@ -9,14 +9,14 @@ use borrow.Author.Tests.{leb-true}
 use lib.Dec.{eqb, leb}
 use lib.ListN.{length, drop, length-drop}
 use Rattle.lists.proofs.Bools.{and_left, and_right, cond_elim}
-use Rattle.script_lines.specs.declared.Line.{Line}
-use Rattle.script_lines.specs.declared.Command.TheVariants.{Make, Put, Delete, DeleteRange, DeleteRangeDated, Flush, Tick, Lookup}
-use Rattle.script_lines.specs.declared.Line.TheVariants.{Unreadable}
+use Rattle.std.specs.Prelude.{Option, None}
+use Rattle.script_lines.specs.declared.Command.{Command}
+use Rattle.script_lines.specs.declared.Command.TheVariants.{Put, Delete, DeleteRange, DeleteRangeDated, Flush, Tick, Lookup}
 use Rattle.script_fields.specs.Numbers.{digits, decimal, is_number}
-use Rattle.script_lines.specs.Lines.{Taking, fields, line_of}
+use Rattle.script_lines.specs.Lines.{Taking, make_of, fields, line_of}
 
-abbrev NoForm : Line → Type 0
-NoForm line = line ≡ Unreadable
+abbrev NoForm : Option Command → Type 0
+NoForm line = line ≡ None
 
 long_fields : (n : ℕ) (command : Taking n) (text : List ℕ) → 11 * n < length text → NoForm (fields n command text)
 unfolding fields
@@ -25,21 +25,21 @@ long_fields zero command (byte ∷ rest) long = refl
 long_fields (suc n) command [] long = refl
 long_fields (suc n) command (byte ∷ rest) long =
     let ds = digits rest in
-    cond_elim NoForm (eqb byte (code " ") && is_number ds) (fields n (command (decimal 0 ds)) (drop (length ds) rest)) Unreadable
+    cond_elim NoForm (eqb byte (code " ") && is_number ds) (fields n (command (decimal 0 ds)) (drop (length ds) rest)) None
     (λ good.
     let few = leb-true (length ds) 10 (and_left _ _ (and_right (leb 1 (length ds)) _ (and_right (eqb byte (code " ")) (is_number ds) good))) in
     long_fields n (command (decimal 0 ds)) (drop (length ds) rest) (rw (length-drop (length ds) rest) (omega (arith, few, long))))
     (λ _. refl)
 
 -- One letter's form after another.
-either : (letter expected : ℕ) (form other : Line) → NoForm form → NoForm other → NoForm (cond (eqb letter expected) form other)
+either : (letter expected : ℕ) (form other : Option Command) → NoForm form → NoForm other → NoForm (cond (eqb letter expected) form other)
 either letter expected form other p q = cond_elim NoForm (eqb letter expected) form other (λ _. p) (λ _. q)
 
-pub long_unreadable : (text : List ℕ) → 56 < length text → line_of text ≡ Unreadable
+pub long_unreadable : (text : List ℕ) → 56 < length text → line_of text ≡ None
 unfolding line_of
 long_unreadable [] long = refl
 long_unreadable (letter ∷ rest) long =
-    let make : NoForm (fields 5 Make rest) = long_fields 5 Make rest (omega (arith, long)) in
+    let make : NoForm (fields 5 make_of rest) = long_fields 5 make_of rest (omega (arith, long)) in
     let put : NoForm (fields 4 Put rest) = long_fields 4 Put rest (omega (arith, long)) in
     let delete : NoForm (fields 2 Delete rest) = long_fields 2 Delete rest (omega (arith, long)) in
     let delete_range : NoForm (fields 3 DeleteRange rest) = long_fields 3 DeleteRange rest (omega (arith, long)) in

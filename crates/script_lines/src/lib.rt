@@ -1,175 +1,114 @@
 // Reads a line of the script: a letter, then numbers, each after one blank.
 #![tactic(auto)]
 
-ghost use Rattle.std.specs.Prelude.{◌≡◌, drop};
-ghost use Rattle.script_lines.specs.declared.Command.TheVariants.{Make, Put, Delete, DeleteRange, DeleteRangeDated, Flush, Tick, Lookup};
-ghost use Rattle.script_lines.specs.Lines.{fields, line_of};
+ghost use Rattle.std.specs.Prelude.{◌≡◌};
+ghost use Rattle.script_lines.specs.Lines.{line_of};
 
-use script_fields::{Field, read_field, read_last};
+use script_fields::read_fields;
+use settings::Settings;
 
-// What a line asks for.
+// What a line asks for; `lo` and `hi` are the first key and the last.
 #[derive(Clone, Copy)]
 pub enum Command {
-    // The number of slots, then the settings L, T, B, D.
-    Make(u32, u32, u32, u32, u32),
-    // The clock, the key, the count and the price.
-    Put(u32, u32, u32, u32),
-    // The clock and the key.
-    Delete(u32, u32),
-    // The clock, the first key and the last.
-    DeleteRange(u32, u32, u32),
-    // The clock, the first key, the last and the date.
-    DeleteRangeDated(u32, u32, u32, u32),
-    // The clock.
-    Flush(u32),
-    // The clock.
-    Tick(u32),
-    // The key.
-    Lookup(u32),
+    Make {
+        slots: u32,
+        settings: Settings,
+    },
+    Put {
+        clock: u32,
+        key: u32,
+        count: u32,
+        price: u32,
+    },
+    Delete {
+        clock: u32,
+        key: u32,
+    },
+    DeleteRange {
+        clock: u32,
+        lo: u32,
+        hi: u32,
+    },
+    DeleteRangeDated {
+        clock: u32,
+        lo: u32,
+        hi: u32,
+        date: u32,
+    },
+    Flush {
+        clock: u32,
+    },
+    Tick {
+        clock: u32,
+    },
+    Lookup {
+        key: u32,
+    },
 }
 
-// A line of the script, or none.
-#[derive(Clone, Copy)]
-pub enum Line {
-    Is(Command),
-    Unreadable,
-}
-
-// Reads a line, which is given without its line feed.
-pub fn read_line(text: &[u8]) -> Line
+// Reads a line, which is given without its line feed; none where it has no form. Each form has its arm, with as many numbers as it names.
+pub fn read_line(text: &[u8]) -> Option<Command>
     ensures { result ≡ line_of text.now }
 {
-    if text.len() == 0 {
-        return Line::Unreadable;
+    match text.first()? {
+        // `M N L T B D`
+        b'M' => {
+            let [slots, deepest, ratio, buffer, term] = read_fields::<5>(text, 1)?;
+            Some(Command::Make {
+                slots,
+                settings: Settings {
+                    deepest,
+                    ratio,
+                    buffer,
+                    term,
+                },
+            })
+        }
+        // `P t k v p`
+        b'P' => {
+            let [clock, key, count, price] = read_fields::<4>(text, 1)?;
+            Some(Command::Put {
+                clock,
+                key,
+                count,
+                price,
+            })
+        }
+        // `D t k`
+        b'D' => {
+            let [clock, key] = read_fields::<2>(text, 1)?;
+            Some(Command::Delete { clock, key })
+        }
+        // `R t lo hi`
+        b'R' => {
+            let [clock, lo, hi] = read_fields::<3>(text, 1)?;
+            Some(Command::DeleteRange { clock, lo, hi })
+        }
+        // `Y t lo hi s`
+        b'Y' => {
+            let [clock, lo, hi, date] = read_fields::<4>(text, 1)?;
+            Some(Command::DeleteRangeDated {
+                clock,
+                lo,
+                hi,
+                date,
+            })
+        }
+        // `F t`
+        b'F' => {
+            let [clock] = read_fields::<1>(text, 1)?;
+            Some(Command::Flush { clock })
+        }
+        // `T t`
+        b'T' => {
+            let [clock] = read_fields::<1>(text, 1)?;
+            Some(Command::Tick { clock })
+        }
+        // `G k`
+        b'G' => {
+            let [key] = read_fields::<1>(text, 1)?;
+            Some(Command::Lookup { key })
+        }
+        _ => None,
     }
-    match text[0] {
-        b'M' => read_make(text),
-        b'P' => read_put(text),
-        b'D' => read_delete(text),
-        b'R' => read_delete_range(text),
-        b'Y' => read_delete_range_dated(text),
-        b'F' => read_flush(text),
-        b'T' => read_tick(text),
-        b'G' => read_lookup(text),
-        _ => Line::Unreadable,
-    }
-}
-
-// `M N L T B D`
-fn read_make(text: &[u8]) -> Line
-    ensures { result ≡ fields 5 Make (drop 1 text.now) }
-{
-    let Field::Number(slots, at) = read_field(text, 1) else {
-        return Line::Unreadable;
-    };
-    let Field::Number(deepest, at) = read_field(text, at) else {
-        return Line::Unreadable;
-    };
-    let Field::Number(ratio, at) = read_field(text, at) else {
-        return Line::Unreadable;
-    };
-    let Field::Number(buffer, at) = read_field(text, at) else {
-        return Line::Unreadable;
-    };
-    let Field::Number(term, _) = read_last(text, at) else {
-        return Line::Unreadable;
-    };
-    Line::Is(Command::Make(slots, deepest, ratio, buffer, term))
-}
-
-// `P t k v p`
-fn read_put(text: &[u8]) -> Line
-    ensures { result ≡ fields 4 Put (drop 1 text.now) }
-{
-    let Field::Number(clock, at) = read_field(text, 1) else {
-        return Line::Unreadable;
-    };
-    let Field::Number(key, at) = read_field(text, at) else {
-        return Line::Unreadable;
-    };
-    let Field::Number(count, at) = read_field(text, at) else {
-        return Line::Unreadable;
-    };
-    let Field::Number(price, _) = read_last(text, at) else {
-        return Line::Unreadable;
-    };
-    Line::Is(Command::Put(clock, key, count, price))
-}
-
-// `D t k`
-fn read_delete(text: &[u8]) -> Line
-    ensures { result ≡ fields 2 Delete (drop 1 text.now) }
-{
-    let Field::Number(clock, at) = read_field(text, 1) else {
-        return Line::Unreadable;
-    };
-    let Field::Number(key, _) = read_last(text, at) else {
-        return Line::Unreadable;
-    };
-    Line::Is(Command::Delete(clock, key))
-}
-
-// `R t lo hi`
-fn read_delete_range(text: &[u8]) -> Line
-    ensures { result ≡ fields 3 DeleteRange (drop 1 text.now) }
-{
-    let Field::Number(clock, at) = read_field(text, 1) else {
-        return Line::Unreadable;
-    };
-    let Field::Number(lo, at) = read_field(text, at) else {
-        return Line::Unreadable;
-    };
-    let Field::Number(hi, _) = read_last(text, at) else {
-        return Line::Unreadable;
-    };
-    Line::Is(Command::DeleteRange(clock, lo, hi))
-}
-
-// `Y t lo hi s`
-fn read_delete_range_dated(text: &[u8]) -> Line
-    ensures { result ≡ fields 4 DeleteRangeDated (drop 1 text.now) }
-{
-    let Field::Number(clock, at) = read_field(text, 1) else {
-        return Line::Unreadable;
-    };
-    let Field::Number(lo, at) = read_field(text, at) else {
-        return Line::Unreadable;
-    };
-    let Field::Number(hi, at) = read_field(text, at) else {
-        return Line::Unreadable;
-    };
-    let Field::Number(date, _) = read_last(text, at) else {
-        return Line::Unreadable;
-    };
-    Line::Is(Command::DeleteRangeDated(clock, lo, hi, date))
-}
-
-// `F t`
-fn read_flush(text: &[u8]) -> Line
-    ensures { result ≡ fields 1 Flush (drop 1 text.now) }
-{
-    let Field::Number(clock, _) = read_last(text, 1) else {
-        return Line::Unreadable;
-    };
-    Line::Is(Command::Flush(clock))
-}
-
-// `T t`
-fn read_tick(text: &[u8]) -> Line
-    ensures { result ≡ fields 1 Tick (drop 1 text.now) }
-{
-    let Field::Number(clock, _) = read_last(text, 1) else {
-        return Line::Unreadable;
-    };
-    Line::Is(Command::Tick(clock))
-}
-
-// `G k`
-fn read_lookup(text: &[u8]) -> Line
-    ensures { result ≡ fields 1 Lookup (drop 1 text.now) }
-{
-    let Field::Number(key, _) = read_last(text, 1) else {
-        return Line::Unreadable;
-    };
-    Line::Is(Command::Lookup(key))
 }

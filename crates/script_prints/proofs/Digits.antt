@@ -1,5 +1,5 @@
 -- Laws of the digits of a number.
-use mathlib.Core.Path.{◌≡◌, refl, ap}
+use mathlib.Core.Path.{◌≡◌, refl, sym, ap, ◌∙◌}
 use mathlib.Core.List.{List, [], ◌∷◌, ◌++◌}
 use Prim.Native.Nat.{ℕ, zero, suc, ◌+◌, ◌*◌, ◌/◌, ◌%◌, ◌≤◌, ◌<◌}
 use native.Mathlib.Omega.{arith}
@@ -61,23 +61,6 @@ pub length-printed : (printed : Printed) → length (numbers_text (numbers_of pr
 length-printed (Three first second third) = omega (arith, length-numbers (numbers_of (Three first second third)))
 length-printed (Four first second third fourth) = length-numbers (numbers_of (Four first second third fourth))
 
--- As many digits as there are make the number whole.
-pub digits_exact : (most n : ℕ) → digits_within (length (digits_within most n)) n ≡ digits_within most n
-unfolding digits_within
-digits_exact zero n = refl
-digits_exact (suc most) n =
-    by_ten n
-    (λ s. rw (length_one most n s, one_digit most n s) (one_digit 0 n s))
-    (λ l.
-    let before = digits_within most (n / 10) in
-    rw (length_more most n l, more_digits most n l, more_digits (length before) n l) (ap (λ ds. ds ++ last_digit n) (digits_exact most (n / 10))))
-
--- Of as many digits as a number has, the last stands after those of the tenth part.
-pub last_of_exact : (left n : ℕ) → length (digits_within (suc left) n) ≡ suc left → digits_within (suc left) n ≡ digits_within left (n / 10) ++ last_digit n
-unfolding digits_within
-last_of_exact zero n exact = by_ten n (λ s. one_digit 0 n s) (λ l. more_digits 0 n l)
-last_of_exact (suc left) n exact = by_ten n (λ s. absurd (omega (arith, length_one (suc left) n s))) (λ l. more_digits (suc left) n l)
-
 -- A number has at most so many digits: so many divisions by ten leave nothing.
 abbrev pub Within : ℕ → ℕ → Type 0
 Within zero n = n ≡ 0
@@ -101,3 +84,19 @@ by_digits P one more (suc most) n w =
 pub by_decimal : (P : ℕ → List ℕ → Type 0) → OfOne P → OfMore P → (n : ℕ) → n < 10000000000 → P n (decimal_text n)
 unfolding decimal_text
 by_decimal P one more n small = by_digits P one more 9 n (omega arith)
+
+-- More places than a number has digits give the same digits.
+pub enough_places : (most n : ℕ) → Within (suc most) n → digits_within (suc (suc most)) n ≡ digits_within (suc most) n
+enough_places zero n within = rw (one_digit 1 n (omega arith), one_digit 0 n (omega arith)) refl
+enough_places (suc most) n within =
+    by_ten n
+    (λ s. rw (one_digit (suc (suc most)) n s, one_digit (suc most) n s) refl)
+    (λ l. rw (more_digits (suc (suc most)) n l, more_digits (suc most) n l) (ap (λ ds. ds ++ last_digit n) (enough_places most (n / 10) within)))
+
+pub decimal_one : (n : ℕ) → n < 10 → decimal_text n ≡ last_digit n
+unfolding decimal_text
+decimal_one n small = one_digit 9 n small
+
+pub decimal_more : (n : ℕ) → n < 10000000000 → 10 ≤ n → decimal_text n ≡ decimal_text (n / 10) ++ last_digit n
+unfolding decimal_text
+decimal_more n small large = more_digits 9 n large ∙ ap (λ ds. ds ++ last_digit n) (sym (enough_places 8 (n / 10) (omega arith)))

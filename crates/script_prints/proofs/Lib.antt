@@ -1,5 +1,6 @@
--- Laws of the digits and of overwriting, and that reading gives back what was printed.
+-- Laws of digits and of bytes that are overwritten; what is printed reads back.
 pub mod Digits
 pub mod Overwrites
-pub mod Loops
+mod Fronts
+mod Several
 pub mod RoundTrip

@@ -1,14 +1,13 @@
 -- Laws of overwriting bytes with a text.
 use mathlib.Core.Path.{◌≡◌, refl, sym}
 use mathlib.Core.List.{List, [], ◌∷◌, ◌++◌, append_assoc}
-use Prim.Native.Nat.{ℕ, suc, ◌+◌, ◌≤◌, ◌<◌}
+use Prim.Native.Nat.{ℕ, ◌+◌, ◌≤◌, ◌<◌}
 use native.Mathlib.Numerals.{add-one}
-use native.Mathlib.Nat.{add-zero, add_assoc, add-suc}
+use native.Mathlib.Nat.{add-zero, add_assoc}
 use native.Mathlib.Omega.{arith}
 use lib.ListN.{length, take, drop, set, length-append, length-take, take-append-drop}
-use lib.Seq.{take_at, drop_at, drop-drop, set_split, take-set-le, length-take-le}
+use lib.Seq.{take_at, drop_at, drop-drop, set_split}
 use Rattle.script_prints.specs.Texts.{overwrite}
-use Rattle.script_prints.proofs.Digits.{length_snoc}
 
 pub overwrite_none : (bytes : List ℕ) (at : ℕ) → overwrite bytes at [] ≡ bytes
 unfolding overwrite
@@ -38,19 +37,6 @@ overwrite_append bytes at s t room =
 pub overwrite-byte : (bytes : List ℕ) (at byte : ℕ) → at < length bytes → set bytes at byte ≡ overwrite bytes at (byte ∷ [])
 unfolding overwrite
 overwrite-byte bytes at byte room = rw (add-one at) (set_split bytes at byte room)
-
--- Storing a byte changes the first of those from its place on.
-drop-set : (bytes : List ℕ) (i byte : ℕ) → i < length bytes → drop i (set bytes i byte) ≡ byte ∷ drop (suc i) bytes
-drop-set bytes i byte room = rw (set_split bytes i byte room) (drop_at (take i bytes) (byte ∷ drop (suc i) bytes) i (length-take-le i bytes (omega arith)))
-
--- The last byte of a text may be stored first.
-pub overwrite_last : (bytes : List ℕ) (at : ℕ) (text : List ℕ) (byte : ℕ) → at + length text < length bytes
-    → overwrite (set bytes (at + length text) byte) at text ≡ overwrite bytes at (text ++ (byte ∷ []))
-unfolding overwrite
-overwrite_last bytes at text byte room =
-    let last = at + length text in
-    rw (take-set-le at bytes last byte (omega arith), drop-set bytes last byte room, length_snoc text byte, add-suc at (length text))
-    (simp append_assoc)
 
 -- A text was printed from a position on, which leaves the bytes and the position after it.
 abbrev pub Printed : List ℕ → ℕ → List ℕ → ℕ → List ℕ → Type 0

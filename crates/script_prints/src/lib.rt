@@ -1,7 +1,7 @@
 // Prints what a line of the script answers: three numbers in decimal, or four.
 #![tactic(auto)]
 
-ghost use Rattle.std.specs.Prelude.{[], ◌∷◌, ◌≡◌, ◌+◌, ◌≤◌, length};
+ghost use Rattle.std.specs.Prelude.{◌≡◌, ◌+◌, ◌*◌, ◌≤◌, length};
 ghost use Rattle.script_prints.specs.Texts.{decimal_text, field_text, numbers_of, numbers_text, overwrite};
 
 // The numbers that a line prints.
@@ -12,29 +12,33 @@ pub enum Printed {
 }
 
 // Prints the numbers of a line from a position on, one blank between them and a line feed at the end. Answers the position after them.
+// What is printed into is a slice of any length, as the contract has it, and no buffer with its count: over one of so much room the digits'
+// recursion gets no proof.
 pub fn print_numbers(out: &mut [u8], at: usize, printed: Printed) -> usize
     requires { at + 44 ≤ length out.old }
     ensures value { result ≡ at + length (numbers_text (numbers_of printed)) }
     ensures out_after { out.new ≡ overwrite out.old at (numbers_text (numbers_of printed)) }
 {
     match printed {
-        Printed::Three(first, second, third) => print_three(out, at, first, second, third),
+        Printed::Three(first, second, third) => print_all(out, at, &[first, second, third]),
         Printed::Four(first, second, third, fourth) => {
-            let at = print_field(out, at, first, b' ');
-            print_three(out, at, second, third, fourth)
+            print_all(out, at, &[first, second, third, fourth])
         }
     }
 }
 
-// Prints the last three numbers of a line.
-fn print_three(out: &mut [u8], at: usize, first: u32, second: u32, third: u32) -> usize
-    requires { at + 33 ≤ length out.old }
-    ensures value { result ≡ at + length (numbers_text (first ∷ second ∷ third ∷ [])) }
-    ensures out_after { out.new ≡ overwrite out.old at (numbers_text (first ∷ second ∷ third ∷ [])) }
+// Prints numbers, each with the byte that ends it.
+fn print_all(out: &mut [u8], at: usize, numbers: &[u32]) -> usize
+    requires { at + 11 * length numbers.now ≤ length out.old }
+    ensures value { result ≡ at + length (numbers_text numbers.now) }
+    ensures out_after { out.new ≡ overwrite out.old at (numbers_text numbers.now) }
 {
-    let at = print_field(out, at, first, b' ');
-    let at = print_field(out, at, second, b' ');
-    print_field(out, at, third, b'\n')
+    let mut end = at;
+    for (i, number) in numbers.iter().enumerate() {
+        let ending = if i + 1 < numbers.len() { b' ' } else { b'\n' };
+        end = print_field(out, end, *number, ending);
+    }
+    end
 }
 
 // Prints a number and the byte that ends it.
@@ -43,36 +47,22 @@ fn print_field(out: &mut [u8], at: usize, number: u32, ending: u8) -> usize
     ensures value { result ≡ at + length (field_text number ending) }
     ensures out_after { out.new ≡ overwrite out.old at (field_text number ending) }
 {
-    let end = at + digit_count(number);
-    print_digits(out, at, end, number);
+    let end = print_digits(out, at, number);
     out[end] = ending;
     end + 1
 }
 
-// Prints the digits of a number from the last to the first.
-fn print_digits(out: &mut [u8], start: usize, end: usize, number: u32)
-    requires end_value { end ≡ start + length (decimal_text number) }
-    requires end_in_bounds { end ≤ length out.old }
-    ensures { out.new ≡ overwrite out.old start (decimal_text number) }
+// Prints the digits of a number: those of its tenth part, if it has more than one, then the last.
+fn print_digits(out: &mut [u8], at: usize, number: u32) -> usize
+    requires { at + length (decimal_text number) ≤ length out.old }
+    ensures value { result ≡ at + length (decimal_text number) }
+    ensures out_after { out.new ≡ overwrite out.old at (decimal_text number) }
 {
-    let mut at = end;
-    let mut rest = number;
-    while start < at {
-        at -= 1;
-        out[at] = b'0' + (rest % 10) as u8;
-        rest /= 10;
-    }
-}
-
-// How many digits a number is written in.
-fn digit_count(number: u32) -> usize
-    ensures { result ≡ length (decimal_text number) }
-{
-    let mut count = 1;
-    let mut rest = number;
-    while 10 <= rest {
-        count += 1;
-        rest /= 10;
-    }
-    count
+    let last = if 10 <= number {
+        print_digits(out, at, number / 10)
+    } else {
+        at
+    };
+    out[last] = b'0' + (number % 10) as u8;
+    last + 1
 }

@@ -12,7 +12,7 @@ use Rattle.tables.specs.Rows.{level_length}
 use Rattle.lists.proofs.Bools.{cond_elim}
 use Rattle.script_store.specs.declared.Size.{Size}
 use Rattle.script_store.specs.Memory.{level_room}
-use Rattle.script_store.specs.Coded.{Fits}
+use Rattle.script_store.specs.Coded.{Room}
 
 module _ (e : List ℕ) (n : ℕ) (room : n ≤ length e) where
   pub lent_length : n ≡ length (take n e)
@@ -32,17 +32,17 @@ level_room_most deepest =
     (λ _. omega arith)
     (λ t. omega (arith, ltb-false 6 deepest t))
 
-module _ {e l : List ℕ} {size : Size} (fits : Fits e l size) where
+module _ {e l : List ℕ} (room : Room e l) where
   -- There is room for what a making is lent.
   pub make_entry_part : {n words : ℕ} → words ≡ entry_length n → n ≤ 3275 → words ≤ length e
-  make_entry_part are few = let room = fits.entry_room in omega arith
+  make_entry_part are few = let whole = room.entry_room in omega arith
 
   pub make_level_part : (deepest : ℕ) {rows : ℕ} → rows ≡ level_room deepest → rows ≤ length l
-  make_level_part deepest are = let room = fits.level_room in omega (arith, level_room_most deepest)
+  make_level_part deepest are = let whole = room.level_room in omega (arith, level_room_most deepest)
 
   -- There is room for the store's tables.
-  pub entry_part : {words : ℕ} → words ≡ entry_length size.slots → words ≤ length e
-  entry_part are = make_entry_part are fits.few
+  pub entry_part : (size : Size) {words : ℕ} → words ≡ entry_length size.slots → words ≤ length e
+  entry_part size are = make_entry_part are size.few
 
-  pub level_part : {rows : ℕ} → rows ≡ level_length size.deepest → rows ≤ length l
-  level_part are = let room = fits.level_room in let shallow = fits.shallow in omega arith
+  pub level_part : (size : Size) {rows : ℕ} → rows ≡ level_length size.deepest → rows ≤ length l
+  level_part size are = let whole = room.level_room in let shallow = size.shallow in omega arith

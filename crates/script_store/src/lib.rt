@@ -1,16 +1,24 @@
-// A store in memory for 3,275 slots and 6 levels: its size, and the calls on it, each with the numbers that it prints.
+// A store in memory for 3,275 slots and 6 levels, and the calls on it, each with the numbers that it prints.
 #![tactic(auto)]
 
-ghost use Rattle.std.specs.Prelude.{◌≡◌};
+ghost use Rattle.std.specs.Prelude.{◌≡◌, ◌≢◌, ◌↔◌, ℕ, ◌≤◌, IsTrue, replicate};
+ghost use Rattle.refusals.specs.Numbers.{refusal_of, numbered};
+ghost use Rattle.lookup.specs.Lookup.{answer_of};
 ghost use Rattle.call_op.specs.Ops.{op_of};
-ghost use Rattle.script_store.specs.Memory.{level_room, makes, does, finds};
-ghost use Rattle.script_store.specs.Coded.{Fits, memory, stepped, answering, counting, finding};
+ghost use Rattle.script_prints.specs.Texts.{numbers_of};
+ghost use Rattle.script_store.specs.Memory.{level_room, answers_alone, makes, does, finds};
+ghost use Rattle.script_store.specs.Coded.{Room, memory, answering, counting, finding};
 
 use call_any::call;
+use call_end::Answer;
 use call_op::Op;
-use lookup::{Answer, lookup};
+use lookup::lookup;
+use lookup_level::Found;
 use make::make;
+use model::Tally;
+use refusals::Refusal;
 use script_prints::Printed;
+use settings::Settings;
 use table_levels::level_length;
 use table_slots::entry_length;
 
@@ -20,51 +28,163 @@ const MOST_SLOTS: u32 = 3275;
 // The deepest level that a store can have.
 const DEEPEST: u32 = 6;
 
-// How large the store is; no slots where none was made.
+// How large the store is; no slots where none was made. That is no Option, since `Memory.slots` and `is_early` of specs/ have that 0 too, and
+// `run_call` and `run_lookup` promise what they answer at a size of no slots.
 #[derive(Clone, Copy)]
 pub struct Size {
     pub slots: usize,
     pub deepest: usize,
+    pub ghost few: { slots ≤ 3275 },
+    pub ghost shallow: { deepest ≤ 6 },
 }
 
-// The store's size after a line, and the numbers that the line prints.
-#[derive(Clone, Copy)]
-pub struct Turn {
-    pub slots: usize,
-    pub deepest: usize,
-    pub printed: Printed,
+// Room for the two tables, of which the store takes the first words.
+#[derive(Drop)]
+pub struct Store {
+    pub entries: [u32; 16380],
+    pub levels: [u32; 32],
+    pub size: Size,
 }
 
-// A number with two zeros, and the store as it was.
-pub fn alone(first: u32, size: Size) -> Turn
-    ensures { result ≡ answering size first }
-{
-    Turn {
-        slots: size.slots,
-        deepest: size.deepest,
-        printed: Printed::Three(first, 0, 0),
+impl Store {
+    ghost use Rattle.script_store.specs.Stores.{memory_of, stepped_to};
+
+    // Room of zeros, and no store yet.
+    pub fn new() -> Store
+        ensures entries { result.entries ≡ replicate 16380 0 }
+        ensures levels { result.levels ≡ replicate 32 0 }
+        ensures no_slots { result.size.slots ≡ 0 }
+        ensures no_levels { result.size.deepest ≡ 0 }
+    {
+        Store {
+            entries: [0; 16380],
+            levels: [0; 32],
+            size: Size {
+                slots: 0,
+                deepest: 0,
+            },
+        }
+    }
+
+    // Whether a store was made.
+    pub fn is_made(&self) -> bool
+        ensures { IsTrue result ↔ self.now.size.slots ≢ 0 }
+    {
+        self.size.slots != 0
+    }
+
+    // Makes the store anew; a refused making leaves the store there was.
+    pub fn run_make(&mut self, slots: u32, settings: Settings) -> Printed
+        ensures { stepped_to self.new result ≡ makes slots settings (memory_of self.old) }
+    {
+        if MOST_SLOTS < slots {
+            return alone(Refusal::Line.number());
+        }
+        match make_in(&mut self.entries, &mut self.levels, slots, settings) {
+            Ok(()) => {
+                self.size = Size {
+                    slots: slots as usize,
+                    deepest: settings.deepest as usize,
+                };
+                alone(0)
+            }
+            Err(refusal) => alone(refusal.number()),
+        }
+    }
+
+    // A timed call, and what it prints.
+    pub fn run_call(&mut self, clock: u32, op: Op) -> Printed
+        ensures { stepped_to self.new result ≡ does (record { clock = clock; op = op_of op }) (memory_of self.old) }
+    {
+        counted(call_in(&mut self.entries, &mut self.levels, self.size, clock, op))
+    }
+
+    // Looks one key up, and prints four numbers.
+    pub fn run_lookup(&self, key: u32) -> Printed
+        ensures { stepped_to self.now result ≡ finds key (memory_of self.now) }
+    {
+        let words = entry_length(self.size.slots);
+        let rows = level_length(self.size.deepest);
+        looked_up(lookup(&self.entries[..words], &self.levels[..rows], key))
     }
 }
 
-// What a timed call answers, and the store of the same size.
-pub fn counted(answer: call_end::Answer, size: Size) -> Turn
-    ensures { result ≡ counting size answer }
+// Makes a store in the first words of the room; refused with the room as it was. The two arrays come apart, here and in `call_in`: slices of two
+// fields behind one `&mut self` get no proof.
+fn make_in(
+    entries: &mut [u32],
+    levels: &mut [u32],
+    slots: u32,
+    settings: Settings,
+) -> Result<(), Refusal>
+    requires room { Room entries.old levels.old }
+    requires few { slots ≤ 3275 }
+    ensures refused { refusal_of result ≢ 0 → (n d : ℕ) →
+        answers_alone (refusal_of result) (memory entries.new levels.new n d) ≡ makes slots settings (memory entries.old levels.old n d) }
+    ensures accepted { refusal_of result ≡ 0 → (n d : ℕ) →
+        answers_alone 0 (memory entries.new levels.new slots settings.deepest) ≡ makes slots settings (memory entries.old levels.old n d) }
+    ensures shallow { refusal_of result ≡ 0 → settings.deepest ≤ 6 }
 {
-    Turn {
-        slots: size.slots,
-        deepest: size.deepest,
-        printed: Printed::Three(answer.refusal, answer.merges, answer.purged),
+    let words = entry_length(slots as usize);
+    let rows = level_room(settings.deepest);
+    let Settings {
+        deepest,
+        ratio,
+        buffer,
+        term,
+    } = settings;
+    make(
+        &mut entries[..words],
+        &mut levels[..rows],
+        deepest,
+        ratio,
+        buffer,
+        term,
+    )
+}
+
+// A timed call on the store that the first words of the room hold.
+fn call_in(
+    entries: &mut [u32],
+    levels: &mut [u32],
+    size: Size,
+    clock: u32,
+    op: Op,
+) -> Result<Answer, Refusal>
+    requires { Room entries.old levels.old }
+    ensures { record { memory = memory entries.new levels.new size.slots size.deepest; printed = numbers_of (counting result) } ≡
+        does (record { clock = clock; op = op_of op }) (memory entries.old levels.old size.slots size.deepest) }
+{
+    let words = entry_length(size.slots);
+    let rows = level_length(size.deepest);
+    call(&mut entries[..words], &mut levels[..rows], clock, op)
+}
+
+// A number with two zeros.
+pub fn alone(first: u32) -> Printed
+    ensures { result ≡ answering first }
+{
+    Printed::Three(first, 0, 0)
+}
+
+// What a timed call answers.
+fn counted(answer: Result<Answer, Refusal>) -> Printed
+    ensures { result ≡ counting answer }
+{
+    match answer {
+        Ok(answer) => Printed::Three(0, answer.merges, answer.purged),
+        Err(refusal) => alone(refusal.number()),
     }
 }
 
 // What a lookup answers: the number of its refusal, whether the key is found, its count and its price.
-fn looked_up(answer: Answer) -> Printed
-    ensures { result ≡ finding answer }
+fn looked_up(answer: Result<Option<Found<Tally>>, Refusal>) -> Printed
+    ensures { result ≡ finding (answer_of (numbered answer)) }
 {
     match answer {
-        Answer::Refused(number) => Printed::Four(number, 0, 0, 0),
-        Answer::Absent => Printed::Four(0, 0, 0, 0),
-        Answer::Found(tally, _) => Printed::Four(0, 1, tally.count, tally.price),
+        Ok(Some(found)) => Printed::Four(0, 1, found.shown.count, found.shown.price),
+        Ok(None) => Printed::Four(0, 0, 0, 0),
+        Err(refusal) => Printed::Four(refusal.number(), 0, 0, 0),
     }
 }
 
@@ -72,72 +192,5 @@ fn looked_up(answer: Answer) -> Printed
 fn level_room(deepest: u32) -> usize
     ensures { result ≡ level_room deepest }
 {
-    if DEEPEST < deepest {
-        return level_length(DEEPEST as usize);
-    }
-    level_length(deepest as usize)
-}
-
-// Makes the store anew; a refused making leaves the store there was.
-pub fn run_make(
-    entries: &mut [u32],
-    levels: &mut [u32],
-    size: Size,
-    slots: u32,
-    deepest: u32,
-    ratio: u32,
-    buffer: u32,
-    term: u32,
-) -> Turn
-    requires { Fits entries.old levels.old size }
-    ensures { stepped entries.new levels.new result ≡
-        makes slots (record { deepest = deepest; ratio = ratio; buffer = buffer; term = term }) (memory entries.old levels.old size) }
-{
-    if MOST_SLOTS < slots {
-        return alone(refusals::LINE, size);
-    }
-    let words = entry_length(slots as usize);
-    let rows = level_room(deepest);
-    let refusal = make(
-        &mut entries[..words],
-        &mut levels[..rows],
-        deepest,
-        ratio,
-        buffer,
-        term,
-    );
-    if refusal != 0 {
-        return alone(refusal, size);
-    }
-    Turn {
-        slots: slots as usize,
-        deepest: deepest as usize,
-        printed: Printed::Three(0, 0, 0),
-    }
-}
-
-// A timed call, and what it prints.
-pub fn run_call(entries: &mut [u32], levels: &mut [u32], size: Size, clock: u32, op: Op) -> Turn
-    requires { Fits entries.old levels.old size }
-    ensures { stepped entries.new levels.new result ≡ does (record { clock = clock; op = op_of op }) (memory entries.old levels.old size) }
-{
-    let words = entry_length(size.slots);
-    let rows = level_length(size.deepest);
-    let answer = call(&mut entries[..words], &mut levels[..rows], clock, op);
-    counted(answer, size)
-}
-
-// Looks one key up, and prints four numbers.
-pub fn run_lookup(entries: &[u32], levels: &[u32], size: Size, key: u32) -> Turn
-    requires { Fits entries.now levels.now size }
-    ensures { stepped entries.now levels.now result ≡ finds key (memory entries.now levels.now size) }
-{
-    let words = entry_length(size.slots);
-    let rows = level_length(size.deepest);
-    let answer = lookup(&entries[..words], &levels[..rows], key);
-    Turn {
-        slots: size.slots,
-        deepest: size.deepest,
-        printed: looked_up(answer),
-    }
+    level_length(deepest.min(DEEPEST) as usize)
 }

@@ -1,15 +1,13 @@
 -- What the code does at the end of the input and with a turn of its loop, as the definitions have it.
 use mathlib.Core.Path.{◌≡◌, subst}
 use mathlib.Core.List.{List}
-use Prim.Native.Nat.{ℕ, ◌+◌, ◌*◌, ◌≤◌, ◌<◌}
+use Prim.Native.Nat.{ℕ, ◌+◌, ◌≤◌, ◌<◌}
 use native.Mathlib.Numerals.{add-one}
-use native.Mathlib.Omega.{arith}
 use borrow.Author.Tests.{ne_eqb}
 use lib.ListN.{length, get_or, drop, drop_of_length-le, take-append-drop}
 use lib.Seq.{drop-cons, length-take-le}
-use Rattle.script_buffer.specs.declared.Progress.{Progress}
 use Rattle.script_buffer.specs.Bytes.{Standing, ended, taken}
-use Rattle.script_buffer.specs.Room.{Ready, standing}
+use Rattle.script_buffer.specs.Room.{Progress, standing}
 use Rattle.script_stream.specs.Blocks.{fed, finished, written}
 
 module _ (e l line output : List ℕ) (m : Progress) where
@@ -18,24 +16,16 @@ module _ (e l line output : List ℕ) (m : Progress) where
   unfolding finished
   finishes_none none = rw (none)
 
-  pub finishes_line : (s : Standing) → Ready e l line m → (m.length ≡ 0 → ⊥) → s ≡ ended (standing e l line output m)
+  pub finishes_line : (s : Standing) → m.length ≤ length line → (m.length ≡ 0 → ⊥) → s ≡ ended (standing e l line output m)
       → s ≡ finished (standing e l line output m)
   unfolding finished
-  finishes_line s ready some ends =
-      rw (length-take-le m.length line (omega (arith, ready.within, ready.line_room)), ne_eqb m.length 0 some) ends
+  finishes_line s within some ends =
+      rw (length-take-le m.length line within, ne_eqb m.length 0 some) ends
 
   -- What waited was written out, and the script goes on in the same room with none that waits.
   pub goes_on : standing e l line output (record { slots = m.slots; deepest = m.deepest; length = m.length; waiting = 0 })
       ≡ written (standing e l line output m)
   goes_on = rw (take-append-drop m.waiting output)
-
--- Between two bytes of a block: the bytes that are left lead from where the script stands to where the block leads.
-pub record Between (block : List ℕ) (room : ℕ) (m₀ : Progress) (goal : Standing) (e l line output : List ℕ) (m : Progress) (i : ℕ) : Type 0 where
-  pub ready : Ready e l line m
-  pub same_room : length output ≡ room
-  pub few : m.waiting ≤ m₀.waiting + 44 * i
-  pub within : i ≤ length block
-  pub leads : fed (drop i block) (standing e l line output m) ≡ goal
 
 -- The byte at a position was taken, and the bytes after it lead to the same.
 pub feeds_one : (block : List ℕ) (i : ℕ) (s s' goal : Standing) → i < length block → fed (drop i block) s ≡ goal

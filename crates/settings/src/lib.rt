@@ -6,6 +6,8 @@ ghost use Rattle.settings.specs.Limits.{within, allowed, power, capacity, limit}
 ghost use Rattle.settings.specs.Checked.{checked_of, level_from, limit_of, capacity_of};
 ghost use Rattle.settings.specs.Carried.{at_level, Carried};
 
+use refusals::Refusal;
+
 // Document 01's ranges of L, T, B and D.
 const DEEPEST_LOW: u32 = 2;
 
@@ -43,64 +45,50 @@ pub struct LevelSettings {
     pub divisor: u64,
 }
 
-// The settings, or the number of the refusal.
-#[derive(Clone, Copy)]
-pub enum Checked {
-    Accepted(Settings),
-    Refused(u32),
-}
-
-// A level's limit in ticks or its capacity in records, where it has one.
-#[derive(Clone, Copy)]
-pub enum Bound {
-    Is(u64),
-    Nothing,
-}
-
 fn in_range(low: u32, x: u32, high: u32) -> bool
     ensures { result ≡ within low x high }
 {
-    if x < low {
-        return false;
-    }
-    x <= high
+    low <= x && x <= high
 }
 
 impl Settings {
     // Refused here, so that no store is made with settings out of range.
-    pub fn new(deepest: u32, ratio: u32, buffer: u32, term: u32) -> Checked
+    pub fn new(deepest: u32, ratio: u32, buffer: u32, term: u32) -> Result<Settings, Refusal>
         ensures { result ≡ checked_of (record { deepest = deepest; ratio = ratio; buffer = buffer; term = term }) }
     {
-        let s = Settings {
-            deepest: deepest,
-            ratio: ratio,
-            buffer: buffer,
-            term: term,
+        let settings = Settings {
+            deepest,
+            ratio,
+            buffer,
+            term,
         };
-        if !s.is_allowed() {
-            return Checked::Refused(refusals::SETTINGS);
+        if settings.is_allowed() {
+            Ok(settings)
+        } else {
+            Err(Refusal::Settings)
         }
-        Checked::Accepted(s)
     }
 
     // A level's limit in ticks; level L and settings that are not allowed have none.
-    pub fn limit(self, level: u32) -> Bound
+    pub fn limit(self, level: u32) -> Option<u64>
         ensures { result ≡ limit_of self level }
     {
-        if !self.is_level_from(0, level) {
-            return Bound::Nothing;
+        if self.is_level_from(0, level) {
+            Some(self.at_level(level).limit())
+        } else {
+            None
         }
-        Bound::Is(self.at_level(level).limit())
     }
 
     // A level's capacity in records; the buffer has none either.
-    pub fn capacity(self, level: u32) -> Bound
+    pub fn capacity(self, level: u32) -> Option<u64>
         ensures { result ≡ capacity_of self level }
     {
-        if !self.is_level_from(1, level) {
-            return Bound::Nothing;
+        if self.is_level_from(1, level) {
+            Some(self.at_level(level).capacity())
+        } else {
+            None
         }
-        Bound::Is(self.at_level(level).capacity())
     }
 
     // The settings at a level, worked out whole; those of the level below it are `next`.
@@ -113,8 +101,8 @@ impl Settings {
         let power = self.power(level);
         LevelSettings {
             settings: self,
-            level: level,
-            power: power,
+            level,
+            power,
             below: power * self.ratio as u64,
             divisor: last - 1,
         }
@@ -123,26 +111,17 @@ impl Settings {
     fn is_allowed(self) -> bool
         ensures { result ≡ allowed self }
     {
-        if !in_range(DEEPEST_LOW, self.deepest, DEEPEST_HIGH) {
-            return false;
-        }
-        if !in_range(RATIO_LOW, self.ratio, RATIO_HIGH) {
-            return false;
-        }
-        if !in_range(BUFFER_LOW, self.buffer, BUFFER_HIGH) {
-            return false;
-        }
-        in_range(TERM_LOW, self.term, TERM_HIGH)
+        in_range(DEEPEST_LOW, self.deepest, DEEPEST_HIGH)
+            && in_range(RATIO_LOW, self.ratio, RATIO_HIGH)
+            && in_range(BUFFER_LOW, self.buffer, BUFFER_HIGH)
+            && in_range(TERM_LOW, self.term, TERM_HIGH)
     }
 
+    // The settings are asked first: with an L of 0 the subtraction would wrap.
     fn is_level_from(self, low: u32, level: u32) -> bool
         ensures { result ≡ level_from low self level }
     {
-        // Asked first: with an L of 0 the subtraction would wrap.
-        if !self.is_allowed() {
-            return false;
-        }
-        in_range(low, level, self.deepest - 1)
+        self.is_allowed() && in_range(low, level, self.deepest - 1)
     }
 
     // T^i; a level is shallow enough that no product wraps.
@@ -151,13 +130,7 @@ impl Settings {
         requires i_le_deepest { i ≤ self.deepest }
         ensures { result ≡ power self i }
     {
-        let mut p = 1u64;
-        let mut k = 0;
-        while k < i {
-            p = p * self.ratio as u64;
-            k += 1;
-        }
-        p
+        (self.ratio as u64).pow(i)
     }
 }
 
@@ -167,14 +140,12 @@ impl LevelSettings {
         requires { Carried self }
         ensures { result ≡ at_level self.settings (self.level + 1) }
     {
-        let settings = self.settings;
-        let below = self.below * settings.ratio as u64;
+        let below = self.below * self.settings.ratio as u64;
         LevelSettings {
-            settings: settings,
             level: self.level + 1,
             power: self.below,
-            below: below,
-            divisor: self.divisor,
+            below,
+            ..self
         }
     }
 

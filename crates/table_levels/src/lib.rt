@@ -1,4 +1,5 @@
 // The words of the level table: the settings' row and a level's row, read and written, and how many words they are.
+// Table and level stay two parameters, as table and slot do in the entry table; and the lengths of the two tables have little in common but a product.
 #![tactic(auto)]
 
 ghost use Rattle.std.specs.Prelude.{◌≡◌, ℕ, ◌≤◌, length};
@@ -10,7 +11,7 @@ ghost use Rattle.tables.specs.Rows.{row_size, level_length, InRows, settings_of,
 ghost use Rattle.tables.specs.Sound.{levels_fit};
 ghost use Rattle.table_levels.specs.Levels.{level_at, row_at, RowsAre};
 
-use settings::{Checked, Settings};
+use settings::Settings;
 
 // Words a row.
 const WORDS: usize = 4;
@@ -98,15 +99,12 @@ pub fn earlier(a: u32, b: u32) -> u32
     ensures { result ≡ earlier a b }
 {
     if a == 0 {
-        return b;
+        b
+    } else if b == 0 {
+        a
+    } else {
+        a.min(b)
     }
-    if b == 0 {
-        return a;
-    }
-    if b < a {
-        return b;
-    }
-    a
 }
 
 // The number of records of all levels.
@@ -114,12 +112,9 @@ pub fn held_all(l: &[u32]) -> u32
     requires { Exists (λ p. RowsAre p l.now) }
     ensures { (p : State ℕ Tally) → RowsAre p l.now → result ≡ held_all p.levels }
 {
-    let levels = deepest_of(l) + 1;
     let mut held = 0;
-    let mut i = 0;
-    while i < levels {
+    for i in 0..deepest_of(l) + 1 {
         held += held_at(l, i);
-        i += 1;
     }
     held
 }
@@ -148,10 +143,10 @@ pub fn levels_fit(l: &[u32]) -> bool
     if l.len() < WORDS {
         return false;
     }
-    let Checked::Accepted(s) = Settings::new(l[0], l[1], l[2], l[3]) else {
+    let Ok(settings) = Settings::new(l[0], l[1], l[2], l[3]) else {
         return false;
     };
-    l.len() == level_length(s.deepest as usize)
+    l.len() == level_length(settings.deepest as usize)
 }
 
 // Writes all words of level i's row.

@@ -1,7 +1,10 @@
 // The words of the entry table: a slot read and written, slot 0 included, and how many slots there are.
+// Table and slot stay two parameters: a walk has a new slot at each step, so a value of both would be made for each word that is read.
+// A word's reader is one line under its definition's name; one for all, told which word, would be no plainer.
 #![tactic(auto)]
 
-ghost use Rattle.std.specs.Prelude.{◌≡◌, ◌<◌, ◌≤◌, leb};
+ghost use Rattle.std.specs.Prelude.{◌≡◌, ◌<◌, ◌≤◌, leb, eqb};
+ghost use Rattle.table_slots.specs.Kinds.{kind_number};
 ghost use Rattle.tables.specs.Slots.{entry_length, slots_of, InTable, slot_at, set_slot, link_to, span_from, next_of, kind_of, span_of, lo_of, hi_of, tally_of, count_of};
 ghost use Rattle.tables.specs.Slots.{price_of, date_of, stamp_of, free_slot, top_slot, first_free, clock_of, with_link, with_clock, with_tally, with_date};
 ghost use Rattle.tables.specs.Sound.{is_untallied, order_key, top_blank, entries_fit};
@@ -9,13 +12,13 @@ ghost use Rattle.tables.specs.Sound.{is_untallied, order_key, top_blank, entries
 use model::Tally;
 
 // The kinds of records; a free slot has kind 0.
-pub const FREE: u32 = 0;
-
-pub const PUT: u32 = 1;
-
-pub const DELETE: u32 = 2;
-
-pub const RANGE: u32 = 3;
+#[derive(Clone, Copy, Debug, PartialEq, Eq)]
+pub enum Kind {
+    Free = 0,
+    Put = 1,
+    Delete = 2,
+    Range = 3,
+}
 
 // Words a slot.
 const WORDS: usize = 5;
@@ -33,11 +36,20 @@ pub fn next_of(e: &[u32], slot: usize) -> usize
     (e[WORDS * slot] % BASE) as usize
 }
 
+// A number, and no `Kind`: tables of any content have any in this half of the word, and a link that changes keeps it.
 pub fn kind_of(e: &[u32], slot: usize) -> u32
     requires { InTable e.now slot }
     ensures { result ≡ kind_of e.now slot }
 {
     e[WORDS * slot] / BASE
+}
+
+// Whether a slot has a kind; where its word has another number than theirs it has none of them.
+pub fn has_kind(e: &[u32], slot: usize, kind: Kind) -> bool
+    requires { InTable e.now slot }
+    ensures { result ≡ eqb (kind_of e.now slot) (kind_number kind) }
+{
+    kind_of(e, slot) == kind as u32
 }
 
 // Lo and hi in one word.
@@ -99,9 +111,7 @@ pub fn is_untallied(e: &[u32], slot: usize) -> bool
     requires { InTable e.now slot }
     ensures { result ≡ is_untallied e.now slot }
 {
-    let count = count_of(e, slot);
-    let price = price_of(e, slot);
-    (count == 0) & (price == 0)
+    (count_of(e, slot) == 0) & (price_of(e, slot) == 0)
 }
 
 pub fn stamp_of(e: &[u32], slot: usize) -> u32
@@ -144,7 +154,7 @@ pub fn is_top_blank(e: &[u32]) -> bool
     is_untallied(e, 0) & (stamp_of(e, 0) == 0)
 }
 
-// Writes the next slot and the kind, which is stacked on it.
+// Writes the next slot and the kind, which is stacked on it: any that the word has room for.
 pub fn set_link(e: &mut [u32], slot: usize, next: usize, kind: u32)
     requires in_table { InTable e.old slot }
     requires next_bound { next < 65536 }
@@ -173,7 +183,7 @@ pub fn set_date(e: &mut [u32], slot: usize, date: u32, stamp: u32)
     e[WORDS * slot + 3] = stamp;
 }
 
-// Writes a record that no slot comes after.
+// Writes a record that no slot comes after, of any kind that the word has room for.
 pub fn set_record(e: &mut [u32], slot: usize, kind: u32, lo: u32, hi: u32, tally: Tally, stamp: u32)
     requires in_table { InTable e.old slot }
     requires kind_bound { kind < 65536 }
@@ -189,7 +199,7 @@ pub fn set_free(e: &mut [u32], slot: usize, next: usize)
     requires next_bound { next ≤ 4294967295 }
     ensures { e.new ≡ set_slot e.old slot (free_slot next) }
 {
-    set_slot(e, slot, next as u32, 0, Tally { count: 0, price: 0 }, 0);
+    set_slot(e, slot, next as u32, 0, Tally::NONE, 0);
 }
 
 // Slot 0 of a fresh store: the first free slot, and no clock.
@@ -198,7 +208,7 @@ pub fn set_top(e: &mut [u32], first: usize)
     requires first_bound { first ≤ 65535 }
     ensures { e.new ≡ set_slot e.old 0 (top_slot first 0) }
 {
-    set_slot(e, 0, first as u32, 0, Tally { count: 0, price: 0 }, 0);
+    set_slot(e, 0, first as u32, 0, Tally::NONE, 0);
 }
 
 pub fn set_first_free(e: &mut [u32], first: usize)
@@ -220,12 +230,8 @@ pub fn set_clock(e: &mut [u32], clock: u32)
 pub fn slot_count(entries: &[u32]) -> usize
     ensures { result ≡ slots_of entries.now }
 {
-    let slots = entries.len() / WORDS;
     // A table without even slot 0 has no slots.
-    if slots == 0 {
-        return 0;
-    }
-    slots - 1
+    (entries.len() / WORDS).saturating_sub(1)
 }
 
 // Whether the table has the slot: a link may lead anywhere. One test less than with slot_count, for each slot of the check.

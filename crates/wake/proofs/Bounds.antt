@@ -6,8 +6,7 @@ use native.Mathlib.Omega.{arith}
 use lib.Dec.{eqb}
 use borrow.Author.Tests.{eqb-true, eqb-false}
 use Rattle.lists.proofs.Bools.{cond_elim}
-use Rattle.model_wake.specs.declared.Wake.{Wake}
-use Rattle.model_wake.specs.declared.Wake.TheVariants as clock
+use Rattle.std.proofs.Common.{Option, Some, None, Result, Ok, Err}
 use Rattle.model_wake.specs.Wake.{next_wake}
 use Rattle.model_wake.proofs.Smallest.{Smallest, next_smallest}
 use Rattle.tables.specs.Words.{Fits32}
@@ -15,24 +14,22 @@ use Rattle.tables.specs.Rows.{settings_of}
 use Rattle.tables.specs.Sound.{table_refusal}
 use Rattle.tables.proofs.Numbers.{tables_refuse_low}
 use Rattle.tables.proofs.SoundWords.{sound_facts}
-use Rattle.wake.specs.declared.Answer.{Answer}
-use Rattle.wake.specs.declared.Answer.TheVariants.{Refused, Never, At}
-use Rattle.wake.specs.Wake.{answered, owed_of, wake_tables}
+use Rattle.wake.specs.Wake.{owed_of, wake_tables}
 use Rattle.wake.proofs.Turns.{clock_most}
 
-abbrev pub AnswerLow : Answer → Type 0
-AnswerLow (Refused n) = (1 ≤ n) × (n ≤ 3)
-AnswerLow Never = Unit {0}
-AnswerLow (At m) = m ≤ 8589934590
+abbrev pub AnswerLow : Result (Option ℕ) ℕ → Type 0
+AnswerLow (Err n) = (1 ≤ n) × (n ≤ 3)
+AnswerLow (Ok None) = Unit {0}
+AnswerLow (Ok (Some m)) = m ≤ 8589934590
 
 module _ (e l : List ℕ) (fits : Fits32 e) where
   -- What a level of sound tables owes is no later than the last clock, a word of the entry table.
-  sound_low : table_refusal e l ≡ 0 → AnswerLow (answered (next_wake (settings_of l) (owed_of l)))
+  sound_low : table_refusal e l ≡ 0 → AnswerLow (Ok (next_wake (settings_of l) (owed_of l)))
   sound_low h = go (next_wake (settings_of l) (owed_of l)) (next_smallest (settings_of l) (owed_of l))
     where
-      go : (w : Wake) → Smallest (settings_of l) (owed_of l) (settings_of l).deepest w → AnswerLow (answered w)
-      go clock.Never s = tt
-      go (clock.At m) s =
+      go : (w : Option ℕ) → Smallest (settings_of l) (owed_of l) (settings_of l).deepest w → AnswerLow (Ok w)
+      go None s = tt
+      go (Some m) s =
           let f = sound_facts e l h in
           let owed = (f.levels s.level (omega (arith, s.above))).owed_clock in
           omega (arith, s.clock, clock_most (settings_of l) s.level (owed_of l s.level) f.settings_ok s.above (omega (arith, owed, fits 1)))

@@ -1,22 +1,13 @@
 -- Request S-5 on the two tables: "the clock of the next due merge", refused 1, 2 and 3 in this order.
-use Rattle.std.specs.Prelude.{cond, List, ℕ, eqb}
-use Rattle.model_wake.specs.declared.Wake as model
-use Rattle.model_wake.specs.declared.Wake.TheVariants as clock
+use Rattle.std.specs.Prelude.{cond, List, ℕ, eqb, Option, Result, Ok, Err}
 use Rattle.model_wake.specs.Wake.{next_wake}
 use Rattle.tables.specs.Rows.{settings_of, level_row}
 use Rattle.tables.specs.Sound.{table_refusal}
-use Rattle.wake.specs.declared.Answer.{Answer}
-use Rattle.wake.specs.declared.Answer.TheVariants.{Refused, Never, At}
-
--- The clock or 'none', as the answer.
-abbrev pub answered : model.Wake → Answer
-answered clock.Never = Never
-answered (clock.At m) = At m
 
 -- What level i owes, by its row.
 abbrev pub owed_of : List ℕ → ℕ → ℕ
 owed_of l i = (level_row l i).owed
 
--- Refused as the check; else the clock by the settings and by what the levels owe.
-unfoldable pub wake_tables : List ℕ → List ℕ → Answer
-wake_tables e l = cond (eqb (table_refusal e l) 0) (answered (next_wake (settings_of l) (owed_of l))) (Refused (table_refusal e l))
+-- Refused as the check; else the clock or 'none' by the settings and by what the levels owe.
+unfoldable pub wake_tables : List ℕ → List ℕ → Result (Option ℕ) ℕ
+wake_tables e l = cond (eqb (table_refusal e l) 0) (Ok (next_wake (settings_of l) (owed_of l))) (Err (table_refusal e l))

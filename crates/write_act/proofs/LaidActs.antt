@@ -26,14 +26,13 @@ use Rattle.tables.proofs.FormedSteps.{acted_at, formed_at, at_formed}
 use Rattle.chain_cells.specs.Held.{Held, top}
 use Rattle.chain_cells.specs.Sifting.{OneHeld, Sifted}
 use Rattle.chain_cells.specs.declared.Cursor.{Cursor}
-use Rattle.chain_sieve.specs.Doomed.{doomed}
-use Rattle.chain_sieve.specs.declared.Doomed.{Doomed}
+use Rattle.table_slots.specs.declared.Kind.TheVariants as kinds
 use Rattle.merge_join.specs.Joining.{level_of}
 use Rattle.table_levels.specs.declared.Level.{Level}
 use Rattle.merge_levels.specs.Laid.{Store, Laid}
 use Rattle.table_levels.specs.Levels.{level_at}
 use Rattle.merge_levels.proofs.Store.{laid_deepest, laid_formed}
-use Rattle.write_record.specs.Records.{record_of, displaced_points}
+use Rattle.write_record.specs.Records.{record_of, displaces}
 use Rattle.write_act.specs.Acting.{Points, PointsHeld, Overwritten, can_act, Acted}
 use Rattle.write_record.specs.declared.Record.{Record}
 use Rattle.chain_cells.proofs.Bounds.{first_head_fits, second_head_fits, two_few}
@@ -74,13 +73,13 @@ act_clock t (delete k) p = refl
 act_clock t (delete_range lo hi date) p = refl
 
 -- Every write but a put wipes.
-act_wipes : (t : ℕ) (v : Write Tally) (p : State ℕ Tally) → (record_of v).kind ≢ 1 → act_deepest t v p ≡ wipe (unplaced t v) p.settings.deepest p
+act_wipes : (t : ℕ) (v : Write Tally) (p : State ℕ Tally) → (record_of v).kind ≢ kinds.Put → act_deepest t v p ≡ wipe (unplaced t v) p.settings.deepest p
 unfolding act_deepest
 act_wipes t (put k a) p ne = absurd (ne refl)
 act_wipes t (delete k) p ne = refl
 act_wipes t (delete_range lo hi date) p ne = refl
 
-wiping_can : (v : Write Tally) (p : State ℕ Tally) → (record_of v).kind ≢ 1 → true ≡ can_act v p
+wiping_can : (v : Write Tally) (p : State ℕ Tally) → (record_of v).kind ≢ kinds.Put → true ≡ can_act v p
 wiping_can (put k a) p ne = absurd (ne refl)
 wiping_can (delete k) p ne = refl
 wiping_can (delete_range lo hi date) p ne = refl
@@ -171,21 +170,21 @@ module _ {g : Store} {e l : List ℕ} (laid : Laid g e l) where
           }
 
     -- The same in the words of the code's record and clock.
-    pub put_ends : (v : Write Tally) {w : Record} → w ≡ record_of v → w.kind ≡ 1 → {clock : ℕ} → g.time ≡ clock → {e' : List ℕ} {found : Bool}
+    pub put_ends : (v : Write Tally) {w : Record} → w ≡ record_of v → w.kind ≡ kinds.Put → {clock : ℕ} → g.time ≡ clock → {e' : List ℕ} {found : Bool}
         → Overwritten (deepest_points g) w.lo w.tally clock e' found → Acted g v e l e' l found
     put_ends (put k a) is one {clock} t {e'} {found} o =
         put_acted k a (rw (← t) at (subst (λ (x : Record). Overwritten (deepest_points g) x.lo x.tally clock e' found) is o))
-    put_ends (delete k) is one t o = absurd (omega (arith, ap (λ (x : Record). x.kind) is))
-    put_ends (delete_range lo hi date) is one t o = absurd (omega (arith, ap (λ (x : Record). x.kind) is))
+    put_ends (delete k) is one t o = let other = ap (λ (x : Record). x.kind) is in cc
+    put_ends (delete_range lo hi date) is one t o = let other = ap (λ (x : Record). x.kind) is in cc
 
-    module _ (v : Write Tally) {w : Record} (is : w ≡ record_of v) (ne : w.kind ≢ 1)
-        {d : ℕ} (deep : d ≡ (settings_of l).deepest) {r : Level} (row : r ≡ level_at l d) {which : Doomed} (told : which ≡ displaced_points w)
-        {e' : List ℕ} {m : Cursor} (s : Sifted (doomed which) (points_of g g.state.settings.deepest) e' m) where
+    module _ (v : Write Tally) {w : Record} (is : w ≡ record_of v) (ne : w.kind ≢ kinds.Put)
+        {d : ℕ} (deep : d ≡ (settings_of l).deepest) {r : Level} (row : r ≡ level_at l d)
+        {e' : List ℕ} {m : Cursor} (s : Sifted (displaces w) (points_of g g.state.settings.deepest) e' m) where
       -- The row that the code leaves.
       abbrev left_row : Row
       left_row = record { points = m.head; ranges = r.ranges; held = r.held - m.gone; owed = r.owed }
 
-      wiping : (record_of v).kind ≢ 1
+      wiping : (record_of v).kind ≢ kinds.Put
       wiping q = ne (ap (λ (x : Record). x.kind) is ∙ q)
 
       deepest_level : model.Level ℕ Tally
@@ -199,13 +198,13 @@ module _ {g : Store} {e l : List ℕ} (laid : Laid g e l) where
       wiped = record { points = reject goes deepest_level.points; ranges = deepest_level.ranges; owed = deepest_level.owed }
 
       -- The cells that went and those that stayed are those of the points.
-      gone≡ : select (doomed which) (map point_cell deepest_level.points) ≡ map point_cell (select goes deepest_level.points)
+      gone≡ : select (displaces w) (map point_cell deepest_level.points) ≡ map point_cell (select goes deepest_level.points)
       unfolding deepest_level goes
-      gone≡ = rw told (points_gone tt g.time v w is deepest_level.points (laid_formed g e l laid g.state.settings.deepest).keys)
+      gone≡ = points_gone tt g.time v w is deepest_level.points (laid_formed g e l laid g.state.settings.deepest).keys
 
-      left≡ : reject (doomed which) (map point_cell deepest_level.points) ≡ map point_cell (reject goes deepest_level.points)
+      left≡ : reject (displaces w) (map point_cell deepest_level.points) ≡ map point_cell (reject goes deepest_level.points)
       unfolding deepest_level goes
-      left≡ = rw told (points_left tt g.time v w is deepest_level.points (laid_formed g e l laid g.state.settings.deepest).keys)
+      left≡ = points_left tt g.time v w is deepest_level.points (laid_formed g e l laid g.state.settings.deepest).keys
 
       wiped_held : Held g.slots g.state.clock (release (point_slots (select goes deepest_level.points)) g.state.free)
           (map point_cell wiped.points ∷ map range_cell wiped.ranges ∷ level_chains (set g.state.levels g.state.settings.deepest empty)) e'

@@ -6,6 +6,7 @@ use Prim.Native.Nat.{ℕ}
 use native.Mathlib.Omega.{arith}
 use lib.Dec.{eqb}
 use borrow.Author.Tests.{eqb-true, ne_eqb, ltb-true}
+use Rattle.std.specs.Prelude.{Some}
 use Rattle.lists.specs.Lists.{any, select}
 use Rattle.lists.specs.All.{All, Ascending}
 use Rattle.lists.proofs.Bools.{by_cases, or_second, or_false_left, or_false_right, or_false_intro}
@@ -13,7 +14,8 @@ use Rattle.model.specs.declared.Tally.{Tally}
 use Rattle.model.specs.Records.{value, Point}
 use Rattle.model.specs.Merge.{names, point_before}
 use Rattle.model.specs.Steps.{overwrite}
-use Rattle.tables.specs.Placed.{point_cell, head}
+use Rattle.tables.specs.Placed.{point_cell}
+use Rattle.chain_sieve.specs.Doomed.{first_of}
 
 -- Points parted at the one of docket k.
 pub record Named (k : ℕ) (ps : List (Point ℕ Tally)) : Type 0 where
@@ -62,14 +64,14 @@ find_named k (p ∷ ps) a h = by_cases (eqb p.key k) here (λ e. there e (find_n
 
 -- The first point that passes the test is the docket's.
 first_named : (k : ℕ) (qs : List (Point ℕ Tally)) (p : Point ℕ Tally) (rs : List (Point ℕ Tally)) → names qs k ≡ false → eqb p.key k ≡ true
-    → head (map point_cell (select (λ q. eqb q.key k) (qs ++ p ∷ rs))) ≡ p.slot
+    → first_of (map point_cell (select (λ q. eqb q.key k) (qs ++ p ∷ rs))) ≡ Some p.slot
 unfolding any select
 first_named k [] p rs h e = rw e
 first_named k (q ∷ qs) p rs h e = rw (or_false_left (eqb q.key k) (names qs k) h) (first_named k qs p rs (or_false_right (eqb q.key k) (names qs k) h) e)
 
-pub named_first : (k : ℕ) (ps : List (Point ℕ Tally)) (n : Named k ps) → head (map point_cell (select (λ q. eqb q.key k) ps)) ≡ n.point.slot
+pub named_first : (k : ℕ) (ps : List (Point ℕ Tally)) (n : Named k ps) → first_of (map point_cell (select (λ q. eqb q.key k) ps)) ≡ Some n.point.slot
 named_first k ps n =
-    ap (λ (qs : List (Point ℕ Tally)). head (map point_cell (select (λ q. eqb q.key k) qs))) n.whole
+    ap (λ (qs : List (Point ℕ Tally)). first_of (map point_cell (select (λ q. eqb q.key k) qs))) n.whole
     ∙ first_named k n.before n.point n.after n.none_before n.key_is
 
 -- A put with this tally and stamp in the point's place.

@@ -1,11 +1,11 @@
 -- Tally and stamp of a docket's put changed in its slot.
 use mathlib.Core.Path.{◌≡◌, refl, sym, ap, ◌∙◌}
-use mathlib.Core.Logic.{◌≢◌}
 use mathlib.Core.Bool.{true, false, false≢true}
 use mathlib.Core.List.{List, ◌∷◌, ◌++◌, map}
 use Prim.Native.Nat.{ℕ}
 use native.Mathlib.Omega.{arith}
 use lib.Dec.{eqb}
+use Rattle.std.specs.Prelude.{Option, None, Some}
 use Rattle.lists.specs.Lists.{select}
 use Rattle.lists.proofs.Bools.{by_cases}
 use Rattle.lists.proofs.Tests.{all_right, all_weaken, append_map, select_none}
@@ -21,8 +21,7 @@ use Rattle.chain_cells.specs.Held.{Held}
 use Rattle.chain_cells.specs.Sifting.{Chain, OneHeld}
 use Rattle.chain_cells.proofs.Frames.{chain_end}
 use Rattle.chain_cells.proofs.Laws.{rewritten_first}
-use Rattle.chain_sieve.specs.Doomed.{doomed}
-use Rattle.chain_sieve.specs.declared.Doomed.TheVariants.{Docket}
+use Rattle.chain_sieve.specs.Doomed.{first_of, has_docket}
 use Rattle.merge_join.proofs.Maps.{select-map_where}
 use Rattle.merge_join.proofs.Points.{Keyed, point_lo}
 use Rattle.write_act.specs.Acting.{PointsHeld, Overwritten}
@@ -47,13 +46,13 @@ module _ {g : acting.Points} {e : List ℕ} {first : ℕ} (h : PointsHeld g e fi
 
   module _ (k : ℕ) where
     -- The cells that the search stops at are those of the docket's points.
-    chosen : select (doomed (Docket k)) (map point_cell g.points) ≡ map point_cell (select (λ p. eqb p.key k) g.points)
-    chosen = select-map_where point_cell (doomed (Docket k)) (λ p. eqb p.key k) g.points
+    chosen : select (has_docket k) (map point_cell g.points) ≡ map point_cell (select (λ p. eqb p.key k) g.points)
+    chosen = select-map_where point_cell (has_docket k) (λ p. eqb p.key k) g.points
         (all_weaken Keyed _ (λ p low. ap (λ (n : ℕ). eqb n k) (point_lo p low)) g.points h.keys)
 
-    module _ {s : ℕ} (found : s ≡ head (select (doomed (Docket k)) (map point_cell g.points))) where
-      s_is : s ≡ head (map point_cell (select (λ p. eqb p.key k) g.points))
-      s_is = found ∙ ap head chosen
+    module _ {found : Option ℕ} (first≡ : found ≡ first_of (select (has_docket k) (map point_cell g.points))) where
+      found_is : found ≡ first_of (map point_cell (select (λ p. eqb p.key k) g.points))
+      found_is = first≡ ∙ ap first_of chosen
 
       module _ (n : Named k g.points) where
         -- The chain parted at the docket's point, and its cell rewritten there.
@@ -79,27 +78,30 @@ module _ {g : acting.Points} {e : List ℕ} {first : ℕ} (h : PointsHeld g e fi
             (point_cell (written_over a t n.point)) cs g.others e (rewritten_words e x a t) here refl (length-set_slot e x _)
             (λ u ne nz. slot_other e x _ u (λ q. ne (sym q))) (slot_other e x _ 0 (omega (arith, at_place.0))) row)
 
-        slot_is : s ≡ n.point.slot
-        slot_is = s_is ∙ named_first k g.points n
+        found_there : found ≡ Some n.point.slot
+        found_there = found_is ∙ named_first k g.points n
 
-      -- The search ends with slot 0 where no point has the docket, and only there.
-      lacks : s ≡ 0 → names g.points k ≡ false
-      lacks z = by_cases (names g.points k)
-          (λ e. let n = find_named k g.points h.ascend e in absurd (omega (arith, slot_is n, (at_place n).0))) (λ e. e)
+      -- The search finds no slot where no point has the docket, and only there.
+      lacks : found ≡ None → names g.points k ≡ false
+      lacks nothing = by_cases (names g.points k) (λ e. let there = found_there (find_named k g.points h.ascend e) in cc) (λ e. e)
 
-      has : s ≢ 0 → names g.points k ≡ true
-      has nz = by_cases (names g.points k) (λ e. e)
-          (λ e. absurd (nz (s_is ∙ ap (λ (ps : List (Point ℕ Tally)). head (map point_cell ps)) (select_none (λ p. eqb p.key k) g.points e))))
+      has : {s : ℕ} → found ≡ Some s → names g.points k ≡ true
+      has some = by_cases (names g.points k) (λ e. e)
+          (λ e.
+          let none = found_is ∙ ap (λ (ps : List (Point ℕ Tally)). first_of (map point_cell ps)) (select_none (λ p. eqb p.key k) g.points e) in cc)
 
-      pub kept : s ≡ 0 → (a : Tally) (t : ℕ) → Overwritten g k a t e false
-      kept z a t = record { held = rw (untouched k a t g.points (lacks z)) h.held; found_is = sym (lacks z) }
+      pub kept : found ≡ None → (a : Tally) (t : ℕ) → Overwritten g k a t e false
+      kept nothing a t = record { held = rw (untouched k a t g.points (lacks nothing)) h.held; found_is = sym (lacks nothing) }
 
-      module _ (nz : s ≢ 0) where
+      module _ {s : ℕ} (some : found ≡ Some s) where
         named : Named k g.points
-        named = find_named k g.points h.ascend (has nz)
+        named = find_named k g.points h.ascend (has some)
+
+        slot_is : s ≡ named.point.slot
+        slot_is = let there = found_there named in cc
 
         pub slot_in_table : InTable e s
-        slot_in_table = omega (arith, slot_is named, (at_place named).1, h.held.holds.room)
+        slot_in_table = omega (arith, slot_is, (at_place named).1, h.held.holds.room)
 
         pub changed : (a : Tally) (t : ℕ) → Overwritten g k a t (rewritten_words e s a t) true
-        changed a t = record { held = rw (slot_is named) (over named a t); found_is = sym (has nz) }
+        changed a t = record { held = rw slot_is (over named a t); found_is = sym (has some) }

@@ -16,8 +16,8 @@ use Rattle.model.specs.Merge.{range_before, same_range, range_goes, united, late
 use Rattle.model.specs.Steps.{Write, put, delete, delete_range, single, unplaced}
 use Rattle.model.specs.Calls.{written, bad_docket}
 use Rattle.tables.specs.Placed.{range_cell}
-use Rattle.chain_sieve.specs.Doomed.{doomed}
-use Rattle.chain_sieve.specs.declared.Doomed.TheVariants as which
+use Rattle.chain_sieve.specs.Doomed.{has_span}
+use Rattle.table_slots.specs.declared.Kind.TheVariants as kinds
 use Rattle.merge_join.proofs.Ranges.{Spanned}
 use Rattle.write_record.specs.Records.{record_of}
 use Rattle.write_record.specs.declared.Record.{Record}
@@ -100,17 +100,17 @@ single-later x t (delete_range lo hi date) qs o s =
     ap (λ r. r ∷ []) (later_alike (record { slot = x; lo = lo; hi = hi; date = date; stamp = t }) qs o s)
 
 -- And so is its record.
-later_record : (d : ℕ) (v : Write Tally) → (record_of v).kind ≡ 3
+later_record : (d : ℕ) (v : Write Tally) → (record_of v).kind ≡ kinds.Range
     → record { kind = (record_of v).kind; lo = (record_of v).lo; hi = (record_of v).hi; tally = later_date d (record_of v).tally } ≡ record_of (later_dated d v)
-later_record d (put k a) q = absurd (omega arith)
-later_record d (delete k) q = absurd (omega arith)
+later_record d (put k a) q = cc
+later_record d (delete k) q = cc
 later_record d (delete_range lo hi date) q = refl
 
-pub united_record : (t : ℕ) (v : Write Tally) {w : Record} → w ≡ record_of v → w.kind ≡ 3 → (qs : List (Range ℕ)) → All Spanned qs
+pub united_record : (t : ℕ) (v : Write Tally) {w : Record} → w ≡ record_of v → w.kind ≡ kinds.Range → (qs : List (Range ℕ)) → All Spanned qs
     → uniting.united (map range_cell qs) w ≡ record_of (entered_write t qs v)
 united_record t v {w} is ranged qs spans =
     let gone : List (Range ℕ) = select (range_goes (unplaced t v).ranges) qs in
-    let date : first_date (select (doomed (which.Range w.lo w.hi)) (map range_cell qs)) ≡ range_date gone =
+    let date : first_date (select (has_span w.lo w.hi) (map range_cell qs)) ≡ range_date gone =
     ap first_date (ranges_gone tt t v w is qs spans ranged) ∙ first_date_is gone in
     ap (λ (d : ℕ). record { kind = w.kind; lo = w.lo; hi = w.hi; tally = later_date d w.tally }) date
     ∙ ap (λ (r : Record). record { kind = r.kind; lo = r.lo; hi = r.hi; tally = later_date (range_date gone) r.tally }) is

@@ -22,6 +22,9 @@ use Rattle.merge_join.specs.Joining.{level_of}
 use Rattle.table_levels.specs.declared.Level.{Level}
 use Rattle.merge_join.proofs.Points.{Keyed, points_merge}
 use Rattle.merge_join.proofs.Ranges.{Spanned, ranges_merge}
+use Rattle.table_slots.specs.Kinds.{kind_number}
+use Rattle.table_slots.specs.declared.Kind.{Kind}
+use Rattle.table_slots.specs.declared.Kind.TheVariants as kinds
 use Rattle.write_record.specs.Records.{record_of, record_cell}
 use Rattle.write_enter.specs.Uniting.{united}
 use Rattle.write_enter.specs.Entering.{Entry, EntryHeld, Entered}
@@ -69,16 +72,16 @@ module _ {g : Entry} {e : List ℕ} {buffer : Level} {clock : ℕ} {w : Record} 
   cell_is : {r : Record} (v : Write Tally) → r ≡ record_of v → record_cell x clock r ≡ record_cell x g.time (record_of v)
   cell_is {r} v is = ap (λ (t : ℕ). record_cell x t r) h.time_is ∙ ap (record_cell x g.time) is
 
-  owed_is : earlier (cond (eqb w.kind 1) 0 clock) buffer.owed ≡ entered.owed
+  owed_is : earlier (cond (eqb (kind_number w.kind) 1) 0 clock) buffer.owed ≡ entered.owed
   unfolding entered
   owed_is =
-      ap (λ (t : ℕ). earlier (cond (eqb w.kind 1) 0 t) buffer.owed) h.time_is
-      ∙ ap (λ (r : Record). earlier (cond (eqb r.kind 1) 0 g.time) buffer.owed) h.write_is
-      ∙ ap (λ (b : Level). earlier (cond (eqb (record_of g.write).kind 1) 0 g.time) b.owed) h.buffer_is
+      ap (λ (t : ℕ). earlier (cond (eqb (kind_number w.kind) 1) 0 t) buffer.owed) h.time_is
+      ∙ ap (λ (r : Record). earlier (cond (eqb (kind_number r.kind) 1) 0 g.time) buffer.owed) h.write_is
+      ∙ ap (λ (b : Level). earlier (cond (eqb (kind_number (record_of g.write).kind) 1) 0 g.time) b.owed) h.buffer_is
       ∙ sym (entered_owed x g.time g.write g.buffer)
 
-  module _ (pointed : w.kind ≢ 3) where
-    kind_is : (record_of g.write).kind ≢ 3
+  module _ (pointed : w.kind ≢ kinds.Range) where
+    kind_is : (record_of g.write).kind ≢ kinds.Range
     kind_is q = pointed (ap (λ (r : Record). r.kind) h.write_is ∙ q)
 
     -- Its cell among the points that stay makes the points of the entered buffer.
@@ -95,7 +98,7 @@ module _ {g : Entry} {e : List ℕ} {buffer : Level} {clock : ℕ} {w : Record} 
     unfolding entered
     ranges_stay = sym (merged_no_range (single x g.time g.write) g.buffer (single_no_range x g.time g.write kind_is))
 
-    pub point_entered : {e' : List ℕ} {first gone owed : ℕ} → gone ≡ length (gone_points g) → owed ≡ earlier (cond (eqb w.kind 1) 0 clock) buffer.owed
+    pub point_entered : {e' : List ℕ} {first gone owed : ℕ} → gone ≡ length (gone_points g) → owed ≡ earlier (cond (eqb (kind_number w.kind) 1) 0 clock) buffer.owed
         → Spliced (to_splice h w (map point_cell (kept_points g)) (map range_cell g.buffer.ranges ∷ g.others)) e' first
         → Entered g e' (record { points = first; ranges = buffer.ranges; held = buffer.held - gone + 1; owed = owed })
     unfolding entered
@@ -116,15 +119,15 @@ module _ {g : Entry} {e : List ℕ} {buffer : Level} {clock : ℕ} {w : Record} 
           (owed≡ ∙ owed_is);
     }
 
-  module _ (ranged : w.kind ≡ 3) where
-    kind_ranged : (record_of g.write).kind ≡ 3
+  module _ (ranged : w.kind ≡ kinds.Range) where
+    kind_ranged : (record_of g.write).kind ≡ kinds.Range
     kind_ranged = ap (λ (r : Record). r.kind) (sym h.write_is) ∙ ranged
 
     -- The write with the later date.
     abbrev dated : Write Tally
     dated = entered_write g.time g.buffer.ranges g.write
 
-    kind-dated : (record_of dated).kind ≡ 3
+    kind-dated : (record_of dated).kind ≡ kinds.Range
     kind-dated = later_dated-kind (range_date (gone_ranges g)) g.write ∙ kind_ranged
 
     dockets_dated : bad_docket (written dated) ≡ false
@@ -167,5 +170,5 @@ module _ {g : Entry} {e : List ℕ} {buffer : Level} {clock : ℕ} {w : Record} 
             row_is (level_of entered) (points≡ ∙ ap (λ (ps : List (model.Point ℕ Tally)). head (map point_cell ps)) points_stay)
             (s.head_is ∙ ap head ranges_is)
             (omega (arith, buffer_held, points_fewer, ranges_fewer, entered_held x g.time g.write g.buffer))
-            (owed≡ ∙ ap (λ (k : ℕ). earlier (cond (eqb k 1) 0 clock) buffer.owed) (sym ranged) ∙ owed_is);
+            (owed≡ ∙ ap (λ (k : Kind). earlier (cond (eqb (kind_number k) 1) 0 clock) buffer.owed) (sym ranged) ∙ owed_is);
       }

@@ -22,12 +22,11 @@ use Rattle.chain_cells.specs.Sifting.{Chain, OneHeld, Sifted}
 use Rattle.chain_cells.specs.Splicing.{Chains, TwoHeld}
 use Rattle.chain_cells.specs.declared.Cursor.{Cursor}
 use Rattle.chain_cells.proofs.Laws.{swapped}
-use Rattle.chain_sieve.specs.Doomed.{doomed}
-use Rattle.chain_sieve.specs.declared.Doomed.{Doomed}
-use Rattle.chain_sieve.specs.declared.Doomed.TheVariants.{Range}
+use Rattle.chain_sieve.specs.Doomed.{has_span}
+use Rattle.table_slots.specs.declared.Kind.TheVariants.{Range}
 use Rattle.table_levels.specs.declared.Level.{Level}
 use Rattle.merge_join.proofs.Levels.{release_append}
-use Rattle.write_record.specs.Records.{record_of, record_cell, displaced_points}
+use Rattle.write_record.specs.Records.{record_of, record_cell, displaces}
 use Rattle.write_enter.specs.Uniting.{united}
 use Rattle.write_enter.specs.Taking.{Free, FreeHeld, Taken}
 use Rattle.write_enter.specs.Entering.{Entry, EntryHeld, free_then}
@@ -45,16 +44,16 @@ some_room : (slots : List ℕ) → none slots ≡ false → Room slots
 some_room [] h = absurd (true≢false h)
 some_room (x ∷ xs) h = record { first = x; rest = xs; is = refl }
 
--- Kind and dockets of an accepted write fit a slot.
+-- The dockets of an accepted write fit a slot.
 abbrev Fits : Record → Type 0
-Fits r = (r.kind ≤ 3) × (r.lo ≤ 65535) × (r.hi ≤ 65535)
+Fits r = (r.lo ≤ 65535) × (r.hi ≤ 65535)
 
 record_fits : (v : Write Tally) → bad_docket (written v) ≡ false → Fits (record_of v)
-record_fits (put k a) d = let low = ltb-false 65535 k d in (omega arith, omega arith, omega arith)
-record_fits (delete k) d = let low = ltb-false 65535 k d in (omega arith, omega arith, omega arith)
+record_fits (put k a) d = let low = ltb-false 65535 k d in (omega arith, omega arith)
+record_fits (delete k) d = let low = ltb-false 65535 k d in (omega arith, omega arith)
 record_fits (delete_range lo hi date) d =
     let high = ltb-false 65535 hi (or_false_left (ltb 65535 hi) (ltb hi lo) d) in
-    let order = ltb-false hi lo (or_false_right (ltb 65535 hi) (ltb hi lo) d) in (omega arith, omega arith, omega arith)
+    let order = ltb-false hi lo (or_false_right (ltb 65535 hi) (ltb hi lo) d) in (omega arith, omega arith)
 
 -- What of the buffer goes, and what stays.
 abbrev pub gone_points : Entry → List (model.Point ℕ Tally)
@@ -109,10 +108,6 @@ module _ {g : Entry} {e : List ℕ} {buffer : Level} {clock : ℕ} {w : Record} 
   pub points_asked : OneHeld (buffer_points g) e buffer.points
   points_asked = record { held = h.held; head_is = ap (λ (b : Level). b.points) h.buffer_is }
 
-  pub points_sifted : {which : Doomed} → which ≡ displaced_points w → {e' : List ℕ} {m : Cursor}
-      → Sifted (doomed which) (buffer_points g) e' m → Sifted (doomed (displaced_points w)) (buffer_points g) e' m
-  points_sifted told s = rw told at s
-
   -- The ranges, looked through before anything goes.
   pub ranges_held : OneHeld (all_ranges g) e buffer.ranges
   ranges_held = record {
@@ -120,12 +115,12 @@ module _ {g : Entry} {e : List ℕ} {buffer : Level} {clock : ℕ} {w : Record} 
     head_is = ap (λ (b : Level). b.ranges) h.buffer_is;
   }
 
-  module _ {e' : List ℕ} {m : Cursor} (s : Sifted (doomed (displaced_points w)) (buffer_points g) e' m) where
+  module _ {e' : List ℕ} {m : Cursor} (s : Sifted (displaces w) (buffer_points g) e' m) where
     -- The cells that went and those that stayed are those of the points.
-    gone≡ : select (doomed (displaced_points w)) (map point_cell g.buffer.points) ≡ map point_cell (gone_points g)
+    gone≡ : select (displaces w) (map point_cell g.buffer.points) ≡ map point_cell (gone_points g)
     gone≡ = points_gone tt g.time g.write w h.write_is g.buffer.points h.formed.keys
 
-    left≡ : reject (doomed (displaced_points w)) (map point_cell g.buffer.points) ≡ map point_cell (kept_points g)
+    left≡ : reject (displaces w) (map point_cell g.buffer.points) ≡ map point_cell (kept_points g)
     left≡ = points_left tt g.time g.write w h.write_is g.buffer.points h.formed.keys
 
     pub points_head : m.head ≡ head (map point_cell (kept_points g))
@@ -138,7 +133,7 @@ module _ {g : Entry} {e : List ℕ} {buffer : Level} {clock : ℕ} {w : Record} 
     points_held = rw (gone≡, left≡, point_cell_slots (gone_points g)) at s.held
 
     -- A put or a delete makes no range go.
-    pub point_room : w.kind ≢ 3 → Held g.slots g.clock (free_then g) (map point_cell (kept_points g) ∷ map range_cell g.buffer.ranges ∷ g.others) e'
+    pub point_room : w.kind ≢ Range → Held g.slots g.clock (free_then g) (map point_cell (kept_points g) ∷ map range_cell g.buffer.ranges ∷ g.others) e'
     point_room pointed = rw (gone_by_point g.time g.write g.buffer (λ q. pointed (ap (λ (r : Record). r.kind) h.write_is ∙ q))) points_held
 
     pub ranges_asked : OneHeld (buffer_ranges g) e' buffer.ranges
@@ -147,11 +142,11 @@ module _ {g : Entry} {e : List ℕ} {buffer : Level} {clock : ℕ} {w : Record} 
       head_is = ap (λ (b : Level). b.ranges) h.buffer_is;
     }
 
-  module _ (ranged : w.kind ≡ 3) {e' : List ℕ} {m : Cursor} (s : Sifted (doomed (Range w.lo w.hi)) (buffer_ranges g) e' m) where
-    ranges_gone≡ : select (doomed (Range w.lo w.hi)) (map range_cell g.buffer.ranges) ≡ map range_cell (gone_ranges g)
+  module _ (ranged : w.kind ≡ Range) {e' : List ℕ} {m : Cursor} (s : Sifted (has_span w.lo w.hi) (buffer_ranges g) e' m) where
+    ranges_gone≡ : select (has_span w.lo w.hi) (map range_cell g.buffer.ranges) ≡ map range_cell (gone_ranges g)
     ranges_gone≡ = ranges_gone tt g.time g.write w h.write_is g.buffer.ranges h.formed.spans ranged
 
-    ranges_left≡ : reject (doomed (Range w.lo w.hi)) (map range_cell g.buffer.ranges) ≡ map range_cell (kept_ranges g)
+    ranges_left≡ : reject (has_span w.lo w.hi) (map range_cell g.buffer.ranges) ≡ map range_cell (kept_ranges g)
     ranges_left≡ = ranges_left tt g.time g.write w h.write_is g.buffer.ranges h.formed.spans ranged
 
     pub ranges_head : m.head ≡ head (map range_cell (kept_ranges g))
@@ -181,7 +176,7 @@ module _ {g : Entry} {e : List ℕ} {buffer : Level} {clock : ℕ} {w : Record} 
     to_splice = record { slots = g.slots; clock = g.clock; free = room.rest; upper = record_cell room.first clock r ∷ []; lower = chain; others = others }
 
     pub slot_asked : Fits r → {e' : List ℕ} → Held g.slots g.clock (free_then g) (chain ∷ others) e' → FreeHeld to_take e' r
-    slot_asked fits k = record { held = rw room.is at k; kind_fits = fits.0; lo_fits = fits.1; hi_fits = fits.2 }
+    slot_asked fits k = record { held = rw room.is at k; lo_fits = fits.0; hi_fits = fits.1 }
 
     pub chains_asked : {e' : List ℕ} {slot first : ℕ} → Taken to_take clock r e' slot → first ≡ head chain → TwoHeld to_splice e' slot first
     chains_asked {e'} k first≡ = record {

@@ -2,7 +2,7 @@
 use mathlib.Core.Path.{◌≡◌, refl, sym, ap, ◌∙◌}
 use mathlib.Core.Logic.{◌≢◌}
 use mathlib.Core.List.{List, map}
-use Prim.Native.Nat.{ℕ, ◌≤◌}
+use Prim.Native.Nat.{ℕ, ◌+◌, ◌*◌, ◌≤◌, ◌<◌}
 use native.Mathlib.Omega.{arith}
 use lib.ListN.{length}
 use Rattle.tables.proofs.Slots.{length-set_slot, slot_other, slot_same}
@@ -11,9 +11,20 @@ use Rattle.tables.specs.Placed.{free_cell, head, cell_slot}
 use Rattle.tables.proofs.Reading.{next_at}
 use Rattle.chain_cells.proofs.Frames.{Off}
 use Rattle.chain_cells.proofs.Laws.{taken}
+use Rattle.table_slots.specs.Kinds.{kind_number}
+use Rattle.table_slots.specs.declared.Kind.{Kind}
+use Rattle.table_slots.specs.declared.Kind.TheVariants.{Free, Put, Delete, Range}
 use Rattle.write_record.specs.Records.{record_cell}
-use Rattle.write_enter.specs.Taking.{Free, FreeHeld, Taken}
+use Rattle.write_enter.specs.Taking as taking
+use Rattle.write_enter.specs.Taking.{FreeHeld, Taken}
 use Rattle.write_record.specs.declared.Record.{Record}
+
+-- A kind's number fits the upper half of a word.
+pub kind_fits : (k : Kind) → kind_number k < 65536
+kind_fits Free = omega arith
+kind_fits Put = omega arith
+kind_fits Delete = omega arith
+kind_fits Range = omega arith
 
 -- Slot 0 once another slot is the first free one, and the table after slot x, which was followed by next on the free chain, has taken the record.
 abbrev unchained : List ℕ → ℕ → List ℕ
@@ -22,7 +33,7 @@ unchained e next = set_slot e 0 (with_link next (slot_at e 0))
 abbrev filled : List ℕ → ℕ → ℕ → ℕ → Record → List ℕ
 filled e x next t w = set_slot (unchained e next) x (cell_slot 0 (record_cell x t w))
 
-module _ {g : Free} {e : List ℕ} {w : Record} (h : FreeHeld g e w) where
+module _ {g : taking.Free} {e : List ℕ} {w : Record} (h : FreeHeld g e w) where
   -- The first free slot, where it lies, and the one after it.
   pub first_slot : first_free e ≡ g.first
   first_slot = ap (λ (r : Slot). r.link) h.held.holds.first
@@ -73,9 +84,12 @@ module _ {g : Free} {e : List ℕ} {w : Record} (h : FreeHeld g e w) where
     }
 
     -- The same in the words of the code.
-    pub take_ends : {x next' : ℕ} {e' : List ℕ} → x ≡ first_free e → next' ≡ next_of e x → e' ≡ filled e x next' t w → Taken g t w e' x
-    take_ends {x} {next'} {e'} first≡ next≡ table≡ =
+    pub take_ends : {x next' kind : ℕ} {e' : List ℕ} → x ≡ first_free e → next' ≡ next_of e x → kind ≡ kind_number w.kind
+        → e' ≡ set_slot (unchained e next') x (cell_slot 0 (record { slot = x; kind = kind; span = w.lo + 65536 * w.hi; tally = w.tally; stamp = t }))
+        → Taken g t w e' x
+    take_ends {x} {next'} {kind} {e'} first≡ next≡ kind≡ written =
         let at_first : x ≡ g.first = first≡ ∙ first_slot in
+        let table≡ : e' ≡ filled e x next' t w = rw kind≡ at written in
         let table : e' ≡ filled e g.first (head (map free_cell g.rest)) t w =
         table≡ ∙ ap (λ (y : ℕ). filled e y next' t w) at_first ∙ ap (λ (y : ℕ). filled e g.first y t w) (next≡ ∙ ap (next_of e) at_first ∙ first_next) in
         record { held = rw table slot_taken.held; slot_is = at_first }

@@ -1,5 +1,6 @@
 -- A write that enters the buffer.
 use Rattle.std.specs.Prelude.{◌≡◌, false, List, ◌∷◌, map, ℕ}
+use Rattle.lists.specs.All.{Exists}
 use Rattle.lists.specs.Lists.{none}
 use Rattle.model.specs.declared.Tally.{Tally}
 use Rattle.model.specs.Records as model
@@ -37,6 +38,10 @@ pub record EntryHeld (g : Entry) (e : List ℕ) (buffer : Level) (clock : ℕ) (
   pub write_is : w ≡ record_of g.write
   pub dockets : bad_docket (written g.write) ≡ false
   pub room : none (free_then g) ≡ false
+
+-- Some buffer in the table, that some write may enter.
+abbrev pub Enters : List ℕ → Level → ℕ → Record → Type 0
+Enters e buffer clock w = Exists (λ g. EntryHeld g e buffer clock w)
 
 -- The record has the first of the slots that are free then.
 pub record Entered (g : Entry) (e : List ℕ) (buffer : Level) : Type 0 where

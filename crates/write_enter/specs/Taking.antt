@@ -15,7 +15,6 @@ pub record Free : Type 0 where
 
 pub record FreeHeld (g : Free) (e : List ℕ) (w : Record) : Type 0 where
   pub held : Held g.slots g.clock (g.first ∷ g.rest) g.chains e
-  pub kind_fits : w.kind ≤ 3
   pub lo_fits : w.lo ≤ 65535
   pub hi_fits : w.hi ≤ 65535
 

@@ -14,6 +14,8 @@ use Rattle.model.specs.Records.{Range, Level, held}
 use Rattle.model.specs.Merge.{point_before, range_before, point_goes, range_goes, later, earlier, merged, point_slots, range_slots, gone}
 use Rattle.model.specs.Steps.{Write, single, unplaced}
 use Rattle.merge_join.proofs.Counts.{held-merged}
+use Rattle.table_slots.specs.declared.Kind.TheVariants as kinds
+use Rattle.table_slots.specs.Kinds.{kind_number}
 use Rattle.write_record.specs.Records.{record_of}
 use Rattle.write_record.proofs.Singles.{single_no_range, single-held, single-owed, point_goes_alike, range_goes_alike}
 
@@ -32,10 +34,10 @@ unfolding merged merge
 merged_no_range u l q = rw q (reject_never (range_goes {R = ℕ} []) (no_range_goes ℕ) l.ranges)
 
 -- A put or a delete makes points go and no range.
-pub no_range_gone : (t : ℕ) (v : Write Tally) (qs : List (Range ℕ)) → (record_of v).kind ≢ 3 → select (range_goes (unplaced t v).ranges) qs ≡ []
+pub no_range_gone : (t : ℕ) (v : Write Tally) (qs : List (Range ℕ)) → (record_of v).kind ≢ kinds.Range → select (range_goes (unplaced t v).ranges) qs ≡ []
 no_range_gone t v qs ne = rw (single_no_range (tt {0}) t v ne) (select_never (range_goes {R = Unit {0}} []) (no_range_goes (Unit {0})) qs)
 
-pub gone_by_point : (t : ℕ) (v : Write Tally) (l : Level ℕ Tally) → (record_of v).kind ≢ 3
+pub gone_by_point : (t : ℕ) (v : Write Tally) (l : Level ℕ Tally) → (record_of v).kind ≢ kinds.Range
     → gone (unplaced t v) l ≡ point_slots (select (point_goes (unplaced t v)) l.points)
 gone_by_point t v l ne =
     ap (λ rs. point_slots (select (point_goes (unplaced t v)) l.points) ++ range_slots rs) (no_range_gone t v l.ranges ne)
@@ -73,6 +75,6 @@ module _ (x t : ℕ) (v : Write Tally) (l : Level ℕ Tally) where
       + length (select (range_goes (unplaced t v).ranges) l.ranges) ≡ 1 + held l
   entered_held = omega (arith, held-merged (single x t v) l, single-held x t v, ap length gone_alike, ap length ranges_gone_alike)
 
-  pub entered_owed : (merged (single x t v) l).owed ≡ earlier (cond (eqb (record_of v).kind 1) 0 t) l.owed
+  pub entered_owed : (merged (single x t v) l).owed ≡ earlier (cond (eqb (kind_number (record_of v).kind) 1) 0 t) l.owed
   unfolding merged
   entered_owed = ap (λ (k : ℕ). earlier k l.owed) (single-owed x t v)

@@ -1,7 +1,5 @@
 -- `call_any::carry_out`: the work is the definition's, so what is handed to the end of the call is too, and the end is the call's.
-use mathlib.Core.Path.{◌≡◌}
-use native.Mathlib.Omega.{arith}
-use Prim.Native.Nat.{◌+◌}
+use Rattle.std.proofs.Common.{rules, arith, ◌≡◌, ◌+◌}
 use Rattle.model.specs.Records.{held_all}
 use Rattle.model.specs.Calls.{count_written}
 use Rattle.tables.specs.Placed.{read_state}
@@ -13,30 +11,28 @@ use Rattle.call_any.proofs.Ends.{ending, ends, full}
 use Rattle.call_any.proofs.carry_out.Goals as goal
 
 pub held_all-requires : goal.held_all-requires
-held_all-requires c =
-    record { value = _; has = laid_rows _ _ _ (begun_laid c.requires) }
+held_all-requires c = record { value = _; has = laid_rows _ _ _ (begun_laid c.requires) }
 
 pub overflow_add-before : goal.overflow_add-before
 overflow_add-before c =
-    let before_is : let a = c.args in
-    c.held_all.result + c.records_written.result ≡ held_all (read_state a.entries.now a.levels.now).levels + count_written (op_of a.op) = omega (arith, c.held_all.ensures _ (laid_rows _ _ _ (begun_laid c.requires)), c.records_written.ensures) in
-    omega (arith, before_is, (laid_rows _ _ _ (begun_laid c.requires)).few, written_most (op_of c.args.op))
+    let rows = laid_rows _ _ _ (begun_laid c.requires) in
+    omega (arith, c.held_all.ensures _ rows, c.records_written.ensures, rows.few, written_most (op_of c.args.op))
 
-pub returns-then-prepared : goal.returns-then-prepared
-returns-then-prepared c =
-    full c.requires c.prepare-prepared.ensures c.if-prepared.true c.refused.ensures
+pub returns-in_err-merges : goal.returns-in_err-merges
+returns-in_err-merges c =
+    let refused = full c.requires _ (rw c.in_err-merges.was at c.prepare.ensures) in
+    search rules
 
 pub finish-requires : goal.finish-requires
 finish-requires c =
-    let before_is : let a = c.args in
-    c.held_all.result + c.records_written.result ≡ held_all (read_state a.entries.now a.levels.now).levels + count_written (op_of a.op) = omega (arith, c.held_all.ensures _ (laid_rows _ _ _ (begun_laid c.requires)), c.records_written.ensures) in
-    record { value = _; has = ending c.requires c.prepare-prepared.ensures c.if-prepared.false before_is }
+    let rows = laid_rows _ _ _ (begun_laid c.requires) in
+    record { value = _; has = ending c.requires (rw c.in_ok-merges.was at c.prepare.ensures) (omega (arith, c.held_all.ensures _ rows, c.records_written.ensures)) }
 
 pub returns : goal.returns
 returns c =
-    let before_is : let a = c.args in
-    c.held_all.result + c.records_written.result ≡ held_all (read_state a.entries.now a.levels.now).levels + count_written (op_of a.op) = omega (arith, c.held_all.ensures _ (laid_rows _ _ _ (begun_laid c.requires)), c.records_written.ensures) in
-    let b = c.requires in
-    let done = c.if-prepared.false in
-    let before = before_is in
-    ends b c.prepare-prepared.ensures done before (c.finish.ensures _ (ending b c.prepare-prepared.ensures done before))
+    let rows = laid_rows _ _ _ (begun_laid c.requires) in
+    let done = rw c.in_ok-merges.was at c.prepare.ensures in
+    let a = c.args in
+    let before : c.held_all.result + c.records_written.result ≡ held_all (read_state a.entries.now a.levels.now).levels + count_written (op_of a.op) =
+    omega (arith, c.held_all.ensures _ rows, c.records_written.ensures) in
+    ends c.requires done before (c.finish.ensures _ (ending c.requires done before))

@@ -1,21 +1,10 @@
 -- `call_end::finish`: the pass leaves the definition's state, the clock is set after it, and what has gone is what there was less what its levels hold.
 use native.Mathlib.Omega.{arith}
 use Rattle.merge_levels.specs.Laid.{Store, Worked}
-use Rattle.merge_levels.proofs.Free.{slot_zero}
 use Rattle.model.specs.Steps.{begin, pass}
 use Rattle.call_end.specs.Ending.{Ending}
 use Rattle.call_end.proofs.Finishing.{merges_fit, after_rows, held_fits, ended}
 use Rattle.call_end.proofs.finish.Goals as goal
-
-pub pass-more-requires : goal.pass-more-requires
-pass-more-requires c =
-    record { value = c.requires.value; has = (c.requires.has.laid, c.requires.has.time_is) }
-
-pub set_clock-requires : goal.set_clock-requires
-set_clock-requires c =
-    let worked : (g : Store) → (Ending g c.args.e.now c.args.l.now c.args.clock c.args.before c.args.merges)
-    → Worked g (pass c.args.clock (begin g.state)) c.pass-more.new.e c.pass-more.new.l c.pass-more.result = λ g d. c.pass-more.ensures g d.laid d.time_is in
-    slot_zero _ _ _ (worked c.requires.value c.requires.has).laid
 
 pub overflow_add-result : goal.overflow_add-result
 overflow_add-result c =

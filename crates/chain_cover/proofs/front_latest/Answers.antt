@@ -8,22 +8,9 @@ pub returns-then-f-eq0 : goal.returns-then-f-eq0
 returns-then-f-eq0 c =
     sym (front_met_none _ _ _ _ c.if-f-eq0.true)
 
-pub lo_of-lo-requires : goal.lo_of-lo-requires
-lo_of-lo-requires c =
-    c.requires.within c.if-f-eq0.false
-
 pub returns-then-docket-lo : goal.returns-then-docket-lo
 returns-then-docket-lo c =
-    rw c.lo_of-lo.ensures
-    (sym (front_met_past _ _ _ _ c.if-f-eq0.false (omega (arith, c.if-docket-lo.true, c.lo_of-lo.ensures))))
-
-pub meet-m-requires : goal.meet-m-requires
-meet-m-requires c =
-    c.requires.within c.if-f-eq0.false
-
-pub survey-requires : goal.survey-requires
-survey-requires c =
-    c.requires.rest
+    rw c.lo_of-lo.ensures (sym (front_met_past _ _ _ _ c.if-f-eq0.false (omega (arith, c.if-docket-lo.true, c.lo_of-lo.ensures))))
 
 pub returns : goal.returns
 returns c =

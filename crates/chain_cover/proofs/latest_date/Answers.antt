@@ -3,10 +3,6 @@ use native.Mathlib.Omega.{arith}
 use Rattle.chain_cover.proofs.Dates.{surveyed_latest}
 use Rattle.chain_cover.proofs.latest_date.Goals as goal
 
-pub survey-m-requires : goal.survey-m-requires
-survey-m-requires c =
-    c.requires
-
 pub returns : goal.returns
 returns c =
-    rw c.survey-m.ensures (surveyed_latest _ (λ i. omega (arith, c.shared_slice_known-1.given i)) _ _ c.requires.order)
+    rw c.survey.ensures (surveyed_latest _ (λ i. omega (arith, c.type_inv.e i)) _ _ c.requires.order)

@@ -8,11 +8,11 @@ pub returns-then-hi-docket : goal.returns-then-hi-docket
 returns-then-hi-docket c =
     sym (met_ended _ _ _ _ (omega (arith, c.if-hi-docket.true, c.hi_of-hi.ensures)))
 
-pub returns-then-date-m : goal.returns-then-date-m
-returns-then-date-m c =
-    sym (met_older _ _ _ _ (omega (arith, c.if-date-m.true, c.date_of-date.ensures)))
-
-pub returns : goal.returns
-returns c =
+pub returns-then-m-date : goal.returns-then-m-date
+returns-then-m-date c =
     rw (c.date_of-date.ensures, c.hi_of-hi.ensures)
-    (sym (met_later _ _ _ _ (omega (arith, c.if-hi-docket.false, c.hi_of-hi.ensures)) (omega (arith, c.if-date-m.false, c.date_of-date.ensures))))
+    (sym (met_later _ _ _ _ (omega (arith, c.if-hi-docket.false, c.hi_of-hi.ensures)) (omega (arith, c.if-m-date.true, c.date_of-date.ensures))))
+
+pub returns-else-m-date : goal.returns-else-m-date
+returns-else-m-date c =
+    sym (met_older _ _ _ _ (omega (arith, c.if-m-date.false, c.date_of-date.ensures)))

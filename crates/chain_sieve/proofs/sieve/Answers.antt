@@ -1,34 +1,43 @@
--- `chain_sieve::sieve`: the loop keeps true that whatever chain the table held at first is on its way through the sieve, at the cursor.
+-- `chain_sieve::sieve`: the loop keeps true that whatever chain the table held at first is on its way through the sieve, at the cursor, by whatever test decides.
 use mathlib.Core.Path.{refl}
 use borrow.Author.Rules.{rules}
-use Rattle.chain_cells.specs.Sifting.{Sifting, sift_of}
 use Rattle.chain_cells.proofs.Sieves.{cursor_fits, sifting_begins, sifting_ends}
-use Rattle.chain_sieve.specs.Doomed.{doomed}
 use Rattle.chain_sieve.proofs.sieve.Goals as goal
 
 pub loop-m-init : goal.loop-m-init
-loop-m-init c =
-    (refl, λ g h. sifting_begins _ g _ _ h)
+loop-m-init g c =
+    (refl, λ h test d o. rw c.at_start-m.ensures (sifting_begins test h _ _ o))
 
-pub is_doomed-goes-requires : goal.is_doomed-goes-requires
-is_doomed-goes-requires c =
-    let sifting : Sifting (sift_of (doomed c.args.which) c.requires.value) c.loop-m.e c.loop-m.m = c.loop-m.invariant.1 c.requires.value c.requires.has in
-    (cursor_fits _ _ (record { value = _; has = sifting })).at_in_table
+pub goes-doomed-requires : goal.goes-doomed-requires
+goes-doomed-requires g c =
+    let x = c.requires.held in
+    let d = c.requires.decides in
+    let on_the_way = c.loop-m.invariant.1 x.value d.value d.has x.has in
+    d.has.may _ _ (cursor_fits _ _ (record { value = _; has = on_the_way })).at_in_table
 
 pub sift-m-requires : goal.sift-m-requires
-sift-m-requires c =
-    let sifting : Sifting (sift_of (doomed c.args.which) c.requires.value) c.loop-m.e c.loop-m.m = c.loop-m.invariant.1 c.requires.value c.requires.has in
-    record { exists = record { value = _; has = sifting }; at_nonzero = c.loop-m-test.true }
+sift-m-requires g c =
+    let x = c.requires.held in
+    let d = c.requires.decides in
+    record { exists = record { value = _; has = c.loop-m.invariant.1 x.value d.value d.has x.has }; at_nonzero = c.loop-m-test.true }
 
 pub loop-m-smaller : goal.loop-m-smaller
-loop-m-smaller c =
-    let sifting : Sifting (sift_of (doomed c.args.which) c.requires.value) c.loop-m.e c.loop-m.m = c.loop-m.invariant.1 c.requires.value c.requires.has in
-    (c.sift-m.ensures _ sifting c.is_doomed-goes.ensures).1
+loop-m-smaller g c =
+    let x = c.requires.held in
+    let d = c.requires.decides in
+    let on_the_way = c.loop-m.invariant.1 x.value d.value d.has x.has in
+    let fits = cursor_fits _ _ (record { value = _; has = on_the_way }) in
+    (c.sift-m.ensures _ on_the_way (d.has.says _ _ _ fits.at_in_table c.goes-doomed.ensures)).1
 
 pub loop-m-preserved : goal.loop-m-preserved
-loop-m-preserved c =
-    (search rules, λ g h. (c.sift-m.ensures _ (c.loop-m.invariant.1 g h) c.is_doomed-goes.ensures).0)
+loop-m-preserved g c = (
+  search rules,
+  λ h test d o.
+      let on_the_way = c.loop-m.invariant.1 h test d o in
+      let fits = cursor_fits _ _ (record { value = _; has = on_the_way }) in
+      (c.sift-m.ensures _ on_the_way (d.says _ _ _ fits.at_in_table c.goes-doomed.ensures)).0,
+)
 
 pub returns : goal.returns
-returns c =
-    λ g h. sifting_ends _ _ _ _ (c.loop-m.invariant.1 g h) c.loop-m-test.false
+returns g c =
+    λ h test d o. sifting_ends _ _ _ _ (c.loop-m.invariant.1 h test d o) c.loop-m-test.false

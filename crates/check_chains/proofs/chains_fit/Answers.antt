@@ -1,50 +1,33 @@
--- `chains_fit`: slot 0 and the deepest owed are tested, then the free chain is walked, then the levels over its marks, as `chains_checked` says.
-use mathlib.Core.Path.{◌≡◌, refl, sym, ◌∙◌}
-use mathlib.Core.Bool.{true}
-use Rattle.tables.specs.Rows.{settings_of, level_row}
-use Rattle.tables.specs.Sound.{top_blank}
-use borrow.Author.Tests.{not-true, not-false}
+-- `chains_fit`: the words beside the chains are tested, then the free chain is walked, then the levels over its marks, as `chains_checked` says.
+use mathlib.Core.Path.{◌≡◌, sym, ◌∙◌}
+use mathlib.Core.Bool.{true, false}
 use native.Mathlib.Omega.{arith}
-use Rattle.lists.proofs.Branches.{unequal, fails, holds}
 use Rattle.tables.specs.Slots.{slots_of}
 use Rattle.check_walk.proofs.Unmarked.{unmarked_le}
 use Rattle.check_walk.proofs.Passed.{walk_sum}
-use Rattle.check_chains.specs.Levels.{chains_checked}
-use Rattle.check_chains.proofs.Levels.{deepest-owed, chains_fail, chains_go}
+use Rattle.check_chains.specs.Levels.{words_fit, chains_checked}
+use Rattle.check_chains.proofs.Levels.{chains_fail, chains_go}
 use Rattle.check_chains.proofs.chains_fit.Goals as goal
+use Rattle.check_chains.proofs.chains_fit.Goals.{After-first_free}
 
-pub returns-then-not-is_top_blank : goal.returns-then-not-is_top_blank
+words : (c : After-first_free) → words_fit c.args.e.now c.args.l.now ≡ true
+words c = sym c.words_fit.ensures ∙ c.if-not-words_fit.false
+
+pub returns-then-not-words_fit : goal.returns-then-not-words_fit
 unfolding chains_checked
-returns-then-not-is_top_blank c =
-    rw (fails c.is_top_blank.ensures c.if-not-is_top_blank.true-raw)
+returns-then-not-words_fit c =
+    let words : words_fit c.args.e.now c.args.l.now ≡ false = sym c.words_fit.ensures ∙ c.if-not-words_fit.true in
+    rw words
 
-pub returns-then-deepest-ne0 : goal.returns-then-deepest-ne0
-unfolding chains_checked
-returns-then-deepest-ne0 c =
-    let top_is_blank : top_blank c.args.e.now ≡ true = holds c.is_top_blank.ensures c.if-not-is_top_blank.false-raw in
-    let owed_is : let l = c.args.l.now in c.level_at-deepest.result.owed ≡ (level_row l (settings_of l).deepest).owed = deepest-owed c.args.l.now c.level_at-deepest.ensures c.deepest_of.ensures in
-    rw (top_is_blank, unequal owed_is refl c.if-deepest-ne0.true)
+pub levels_fit-requires-clause-marks_bound : goal.levels_fit-requires-clause-marks_bound
+levels_fit-requires-clause-marks_bound c =
+    omega (arith, walk_sum _ _ _ _ _ (omega arith) (rw c.in-Some.is at c.walk.ensures), unmarked_le (slots_of c.args.e.now) c.args.marks.now)
 
-pub returns-then-not-free : goal.returns-then-not-free
-returns-then-not-free c =
-    let top_is_blank : top_blank c.args.e.now ≡ true = holds c.is_top_blank.ensures c.if-not-is_top_blank.false-raw in
-    let owed_is : let l = c.args.l.now in c.level_at-deepest.result.owed ≡ (level_row l (settings_of l).deepest).owed = deepest-owed c.args.l.now c.level_at-deepest.ensures c.deepest_of.ensures in
-    let owes_none : let l = c.args.l.now in (level_row l (settings_of l).deepest).owed ≡ 0 = sym owed_is ∙ c.if-deepest-ne0.false in
-    let first = c.first_free.ensures in
-    chains_fail _ _ _ top_is_blank owes_none first c.walk-free.ensures (not-true _ c.if-not-free.true)
-
-pub levels_fit-requires : goal.levels_fit-requires
-levels_fit-requires c =
-    let sum = walk_sum _ _ _ _ _ (omega arith) c.walk-free.ensures (not-false _ c.if-not-free.false) in
-    let room = unmarked_le (slots_of c.args.e.now) c.args.marks.now in
-    record { entries = c.requires.entries; e_bound = omega arith; l_bound = c.requires.l_bound; l_len = c.requires.l_len; marks_bound = omega (arith, sum, room) }
-
-pub returns : goal.returns
-returns c =
-    let top_is_blank : top_blank c.args.e.now ≡ true = holds c.is_top_blank.ensures c.if-not-is_top_blank.false-raw in
-    let owed_is : let l = c.args.l.now in c.level_at-deepest.result.owed ≡ (level_row l (settings_of l).deepest).owed = deepest-owed c.args.l.now c.level_at-deepest.ensures c.deepest_of.ensures in
-    let owes_none : let l = c.args.l.now in (level_row l (settings_of l).deepest).owed ≡ 0 = sym owed_is ∙ c.if-deepest-ne0.false in
-    let first = c.first_free.ensures in
-    let fits = not-false _ c.if-not-free.false in
+pub returns-in-Some : goal.returns-in-Some
+returns-in-Some c =
     c.levels_fit.ensures
-    ∙ chains_go _ _ _ top_is_blank owes_none first c.walk-free.ensures fits
+    ∙ chains_go _ _ _ (words (goal.at.returns-in-Some c).After-first_free) c.first_free.ensures c.walk.ensures c.in-Some.is
+
+pub returns-in-None : goal.returns-in-None
+returns-in-None c =
+    chains_fail _ _ _ (words (goal.at.returns-in-None c).After-first_free) c.first_free.ensures c.walk.ensures c.in-None.is

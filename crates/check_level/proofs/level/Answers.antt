@@ -1,25 +1,23 @@
 -- `level`: the points are walked, then over their marks the ranges, and a level whose two walks fit is asked for its numbers.
-use borrow.Author.Tests.{not-true, not-false}
 use native.Mathlib.Omega.{arith}
 use Rattle.check_level.proofs.Levels.{points_fail, ranges_fail, level_room, level_ends}
 use Rattle.check_level.proofs.level.Goals as goal
 
-pub returns-then-not-points : goal.returns-then-not-points
-returns-then-not-points c =
-    points_fail _ _ _ _ c.level_at-row.ensures c.walk-points.ensures (not-true _ c.if-not-points.true)
+pub returns-in_err-points : goal.returns-in_err-points
+returns-in_err-points c =
+    rw c.from_residual.ensures (points_fail _ _ _ _ c.level_at-row.ensures c.walk.ensures c.in_err-points.was)
 
-pub returns-then-not-ranges : goal.returns-then-not-ranges
-returns-then-not-ranges c =
-    let read = c.level_at-row.ensures in
-    ranges_fail _ _ _ _ read c.walk-points.ensures c.walk-ranges.ensures (not-false _ c.if-not-points.false) (not-true _ c.if-not-ranges.true)
+pub returns-in_err-ranges : goal.returns-in_err-ranges
+returns-in_err-ranges c =
+    rw c.from_residual-in_err-ranges.ensures
+    (ranges_fail _ _ _ _ c.level_at-row.ensures c.walk.ensures c.in_ok-points.was c.walk-2.ensures c.in_err-ranges.was)
 
 pub overflow_add-count : goal.overflow_add-count
 overflow_add-count c =
-    let room = level_room _ c.args.l.now c.args.i _ c.level_at-row.ensures c.walk-points.ensures c.walk-ranges.ensures in
-    omega (arith, room (not-false _ c.if-not-points.false) (omega arith) (omega arith) (not-false _ c.if-not-ranges.false))
+    let room = level_room _ c.args.l.now c.args.i _ c.level_at-row.ensures c.walk.ensures c.in_ok-points.was c.walk-2.ensures c.in_ok-ranges.was in
+    omega (arith, room (omega arith) (omega arith))
 
 pub returns : goal.returns
 returns c =
-    let read = c.level_at-row.ensures in
-    level_ends _ _ _ _ read c.walk-points.ensures c.walk-ranges.ensures (not-false _ c.if-not-points.false) (not-false _ c.if-not-ranges.false)
-    c.numbers_fit-fits.ensures
+    rw (c.then_some.ensures, c.numbers_fit.ensures)
+    (level_ends _ _ _ _ c.level_at-row.ensures c.walk.ensures c.in_ok-points.was c.walk-2.ensures c.in_ok-ranges.was)

@@ -11,7 +11,7 @@ unfolding mark_of
 overflow_add-marks c =
     let s = c.args.s in
     let b = get_or c.args.marks.now (s / 8) 0 in
-    let f : b < 256 = omega (arith, c.slice_known-1.given (s / 8)) in
+    let f : b < 256 = omega arith in
     rw (shifted_one (s % 8) (omega arith)) (omega (arith, add_fits 8 (s % 8) b (omega arith) f c.requires.s_value))
 
 pub returns : goal.returns

@@ -5,9 +5,9 @@ use Rattle.tables.specs.Slots.{slots_of}
 use Rattle.check_walk.proofs.walk.Given as goal
 
 abbrev pub invariant-loop-at : goal.invariant-loop-at
-invariant-loop-at l =
-    Going l.class l.e l.owed l.initial.marks (chain_from l.e l.head) l.marks l.at l.least l.count
+invariant-loop-at g l =
+    Going g.F.Form.asked l.e l.owed l.initial.marks (chain_from l.e l.head) l.marks l.at l.least l.count
 
 abbrev pub decreases-loop-at : goal.decreases-loop-at
-decreases-loop-at l =
+decreases-loop-at g l =
     unmarked (slots_of l.e) l.marks

@@ -1,16 +1,19 @@
 -- `guontrem::guontrem_scan`: what the scan answers has room in the number.
+use mathlib.Core.Path.{◌∙◌}
 use Rattle.scan.specs.Scan.{scan_tables}
 use Rattle.scan.proofs.Bounds.{answer_low}
+use Rattle.scan.proofs.Counts.{rows_as}
 use Rattle.guontrem.proofs.Rooms.{packable, packs}
 use Rattle.guontrem.proofs.guontrem_scan.Goals as goal
 
-pub pack_scan-requires : goal.pack_scan-requires
-pack_scan-requires c =
+pub pack_scanned-requires : goal.pack_scanned-requires
+pack_scanned-requires c =
     let a = c.args in
-    packable (scan_tables a.entries.now a.levels.now a.lo a.hi a.rows.now) (answer_low a.entries.now a.levels.now a.lo a.hi a.rows.now) _ _ c.scan.ensures
+    packable (scan_tables a.entries.now a.levels.now a.lo a.hi a.rows.now) (answer_low a.entries.now a.levels.now a.lo a.hi a.rows.now) _ _
+    (c.scan.ensures ∙ rows_as a.entries.now a.levels.now a.lo a.hi a.rows.now)
 
 pub returns : goal.returns
 returns c =
     let a = c.args in
-    packs (scan_tables a.entries.now a.levels.now a.lo a.hi a.rows.now) (answer_low a.entries.now a.levels.now a.lo a.hi a.rows.now) _ _ c.scan.ensures _
-    c.pack_scan.ensures
+    packs (scan_tables a.entries.now a.levels.now a.lo a.hi a.rows.now) (answer_low a.entries.now a.levels.now a.lo a.hi a.rows.now) _ _
+    (c.scan.ensures ∙ rows_as a.entries.now a.levels.now a.lo a.hi a.rows.now) _ c.pack_scanned.ensures

@@ -1,17 +1,8 @@
 -- `look_level`: the chains of the level's row are those that the level reads as.
 use mathlib.Core.Path.{ap, ◌∙◌}
-use native.Mathlib.Omega.{arith}
 use Rattle.table_levels.specs.declared.Level.{Level}
 use Rattle.lookup_level.specs.Answers.{level_decides, chain_level}
 use Rattle.lookup.proofs.look_level.Goals as goal
-
-pub level_at-row-requires : goal.level_at-row-requires
-level_at-row-requires c =
-    omega (arith, c.requires.0.rows, c.requires.1)
-
-pub look_chains-requires : goal.look_chains-requires
-look_chains-requires c =
-    record { ordered = rw c.level_at-row.ensures (c.requires.0.points _ c.requires.1); ordered_2 = rw c.level_at-row.ensures (c.requires.0.ranges _ c.requires.1) }
 
 pub returns : goal.returns
 unfolding level_decides

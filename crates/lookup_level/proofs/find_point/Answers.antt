@@ -1,13 +1,9 @@
 -- `lookup_level::find_point`: the loop keeps true that the chain from `at` is ordered and its points say of the docket what those from `head` say.
-use mathlib.Core.Path.{refl, sym, ◌∙◌}
+use mathlib.Core.Path.{sym, ◌∙◌}
 use native.Mathlib.Omega.{arith}
 use Rattle.chain_cover.proofs.Chains.{On, go_on, shorter}
 use Rattle.lookup_level.proofs.Walks.{points_end, points_past, points_here, points_next}
 use Rattle.lookup_level.proofs.find_point.Goals as goal
-
-pub loop-at-init : goal.loop-at-init
-loop-at-init c =
-    (c.requires, refl)
 
 pub lo_of-key-requires : goal.lo_of-key-requires
 lo_of-key-requires c =

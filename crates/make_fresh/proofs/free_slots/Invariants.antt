@@ -1,4 +1,4 @@
-use Prim.Native.Nat.{◌+◌, ◌-◌, ◌≤◌}
+use Prim.Native.Nat.{◌+◌, ◌≤◌}
 use Rattle.make_fresh.specs.Fresh.{made_entries}
 use Rattle.make_fresh.proofs.Parts.{Agree}
 use Rattle.make_fresh.proofs.Entries.{slot_parts}
@@ -6,8 +6,4 @@ use Rattle.make_fresh.proofs.free_slots.Given as goal
 
 abbrev pub invariant-loop-slot : goal.invariant-loop-slot
 invariant-loop-slot l =
-    (1 ≤ l.slot) × (l.slot ≤ l.slots + 1) × Agree slot_parts (made_entries l.slots) l.slot l.entries
-
-abbrev pub decreases-loop-slot : goal.decreases-loop-slot
-decreases-loop-slot l =
-    l.slots + 1 - l.slot
+    record { upto : l.slot ≤ l.slots + 1; slots : Agree slot_parts (made_entries l.slots) l.slot l.entries }

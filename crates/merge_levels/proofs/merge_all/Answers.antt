@@ -1,69 +1,37 @@
 -- The loop keeps: the merges from level i on lead to what all merges lead to.
-use borrow.Author.Rules.{rules}
-use mathlib.Core.Path.{refl}
-use Prim.Native.Nat.{◌+◌, ◌<◌, ◌≤◌}
 use native.Mathlib.Omega.{arith}
-use Rattle.model.specs.Steps.{begin, merge_level, merge_all}
-use Rattle.merge_levels.specs.Laid.{Store, Laid, Worked}
-use Rattle.merge_levels.proofs.Store.{laid_length, laid_deepest, laid_allowed}
-use Rattle.merge_levels.proofs.Turns.{Reached, merge_counts, reached_store, reached_level, few_more, reached_next, reached_end, merge_all_begun}
+use Rattle.merge_levels.proofs.Store.{laid_length, laid_below, laid_deepest, laid_allowed}
+use Rattle.merge_levels.proofs.Turns.{merge_counts, reached_store, reached_level, reached_next, reached_end, merge_all_begun}
 use Rattle.merge_levels.proofs.merge_all.Goals as goal
 
-pub deepest_of-deepest-requires : goal.deepest_of-deepest-requires
-deepest_of-deepest-requires c =
-    omega (arith, laid_length c.requires.value c.args.e.now c.args.l.now c.requires.has)
+pub deepest_of-i-end-requires : goal.deepest_of-i-end-requires
+deepest_of-i-end-requires c =
+    omega (arith, laid_length _ _ _ c.requires.has)
 
 pub loop-i-init : goal.loop-i-init
 loop-i-init c =
-    let a = c.args in
-    (refl, refl, λ g laid. merge_all_begun g a.e.now a.l.now laid)
+    λ g laid. merge_all_begun g _ _ laid
 
 pub merge_level-merges-requires : goal.merge_level-merges-requires
 merge_level-merges-requires c =
-    let in_turn : (g : Store) → (Laid g c.args.e.now c.args.l.now) → c.loop-i.i < g.state.settings.deepest = λ g laid. let a = c.args in
-    omega (arith, c.loop-i-test.true, c.deepest_of-deepest.ensures, laid_deepest g a.e.now a.l.now laid) in
-    let w = c.loop-i.invariant.2 c.requires.value c.requires.has in
-    record { value = reached_store w; has = (w.worked.laid, reached_level w (in_turn c.requires.value c.requires.has)) }
-
-pub overflow_add-merges : goal.overflow_add-merges
-overflow_add-merges c =
-    let in_turn : (g : Store) → (Laid g c.args.e.now c.args.l.now) → c.loop-i.i < g.state.settings.deepest = λ g laid. let a = c.args in
-    omega (arith, c.loop-i-test.true, c.deepest_of-deepest.ensures, laid_deepest g a.e.now a.l.now laid) in
-    let reached : (g : Store) (laid : (Laid g c.args.e.now c.args.l.now)) → Reached merge_level (merge_all g.state) g c.loop-i.e c.loop-i.l c.loop-i.merges c.loop-i.i = λ g laid. c.loop-i.invariant.2 g laid in
-    let done : (g : Store) (laid : (Laid g c.args.e.now c.args.l.now)) → Worked (reached_store (reached g laid)) (merge_level c.loop-i.i (begin (reached g laid).work.state))
-    c.merge_level-merges.new.e c.merge_level-merges.new.l c.merge_level-merges.result = λ g laid. c.merge_level-merges.ensures (reached_store (reached g laid)) (reached g laid).worked.laid (reached_level (reached g laid) (in_turn g laid)) in
-    let shallow : c.loop-i.i < 6 = let g = c.requires.value in
-    let laid = c.requires.has in
-    omega (arith, in_turn g laid, laid_allowed g c.args.e.now c.args.l.now laid) in
-    let few : c.loop-i.merges + c.merge_level-merges.result ≤ c.loop-i.i + 1 = let g = c.requires.value in
-    let laid = c.requires.has in
-    few_more merge_counts (reached g laid) (in_turn g laid) (done g laid) in
-    omega (arith, few, shallow)
-
-pub overflow_add-i : goal.overflow_add-i
-overflow_add-i c =
-    let in_turn : (g : Store) → (Laid g c.args.e.now c.args.l.now) → c.loop-i.i < g.state.settings.deepest = λ g laid. let a = c.args in
-    omega (arith, c.loop-i-test.true, c.deepest_of-deepest.ensures, laid_deepest g a.e.now a.l.now laid) in
-    let shallow : c.loop-i.i < 6 = let g = c.requires.value in
-    let laid = c.requires.has in
-    omega (arith, in_turn g laid, laid_allowed g c.args.e.now c.args.l.now laid) in
-    omega (arith, shallow)
+    let h = c.requires in
+    let w = c.loop-i.invariant h.value h.has in
+    let deep = laid_below _ _ _ h.has _ c.deepest_of-i-end.ensures _ c.loop-i-test.true in
+    record { value = reached_store w; has = (w.worked.laid, reached_level w deep) }
 
 pub loop-i-preserved : goal.loop-i-preserved
 loop-i-preserved c =
-    let in_turn : (g : Store) → (Laid g c.args.e.now c.args.l.now) → c.loop-i.i < g.state.settings.deepest = λ g laid. let a = c.args in
-    omega (arith, c.loop-i-test.true, c.deepest_of-deepest.ensures, laid_deepest g a.e.now a.l.now laid) in
-    let reached : (g : Store) (laid : (Laid g c.args.e.now c.args.l.now)) → Reached merge_level (merge_all g.state) g c.loop-i.e c.loop-i.l c.loop-i.merges c.loop-i.i = λ g laid. c.loop-i.invariant.2 g laid in
-    let done : (g : Store) (laid : (Laid g c.args.e.now c.args.l.now)) → Worked (reached_store (reached g laid)) (merge_level c.loop-i.i (begin (reached g laid).work.state))
-    c.merge_level-merges.new.e c.merge_level-merges.new.l c.merge_level-merges.result = λ g laid. c.merge_level-merges.ensures (reached_store (reached g laid)) (reached g laid).worked.laid (reached_level (reached g laid) (in_turn g laid)) in (
-      search rules,
-      search rules,
-      λ g laid. reached_next merge_counts (reached g laid) (in_turn g laid) (done g laid),
-    )
+    λ g laid.
+    let w = c.loop-i.invariant g laid in
+    let deep = laid_below _ _ _ laid _ c.deepest_of-i-end.ensures _ c.loop-i-test.true in
+    reached_next merge_counts w deep (c.merge_level-merges.ensures (reached_store w) w.worked.laid (reached_level w deep))
+
+pub overflow_add-merges : goal.overflow_add-merges
+overflow_add-merges c =
+    let h = c.requires in
+    let next = loop-i-preserved c h.value h.has in
+    omega (arith, next.few, next.here, laid_allowed _ _ _ h.has)
 
 pub returns : goal.returns
 returns c =
-    λ g laid.
-    let a = c.args in
-    reached_end (c.loop-i.invariant.2 g laid)
-    (omega (arith, c.loop-i-test.false, c.deepest_of-deepest.ensures, laid_deepest g a.e.now a.l.now laid))
+    λ g laid. reached_end (c.loop-i.invariant g laid) (omega (arith, c.loop-i-test.false, c.deepest_of-i-end.ensures, laid_deepest _ _ _ laid))

@@ -1,6 +1,3 @@
-use mathlib.Core.Path.{◌≡◌}
-use Prim.Native.Nat.{◌-◌}
-use lib.ListN.{length}
 use Rattle.model.specs.Steps.{merge_level, merge_all}
 use Rattle.merge_levels.specs.Laid.{Store, Laid}
 use Rattle.merge_levels.proofs.Turns.{Reached}
@@ -8,9 +5,4 @@ use Rattle.merge_levels.proofs.merge_all.Given as goal
 
 abbrev pub invariant-loop-i : goal.invariant-loop-i
 invariant-loop-i l =
-    (length l.e ≡ length l.initial.e) × (length l.l ≡ length l.initial.l)
-    × ((g : Store) → Laid g l.initial.e l.initial.l → Reached merge_level (merge_all g.state) g l.e l.l l.merges l.i)
-
-abbrev pub decreases-loop-i : goal.decreases-loop-i
-decreases-loop-i l =
-    l.deepest - l.i
+    (g : Store) → Laid g l.initial.e l.initial.l → Reached merge_level (merge_all g.state) g l.e l.l l.merges l.i

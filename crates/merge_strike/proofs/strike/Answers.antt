@@ -4,17 +4,18 @@ use borrow.Author.Rules.{rules}
 use Rattle.merge_strike.proofs.Strikes.{strike_of, upper-ranges, striking_begins, striking_ends}
 use Rattle.merge_strike.proofs.strike.Goals as goal
 
-pub front_at-front-requires : goal.front_at-front-requires
-front_at-front-requires c =
+pub front_at-requires : goal.front_at-requires
+front_at-requires c =
     upper-ranges c.requires.value _ _ _ _ c.requires.has
 
 pub loop-m-init : goal.loop-m-init
 loop-m-init c =
-    (refl, λ g h. striking_begins g _ _ _ _ _ c.front_at-front.ensures h)
+    (refl, λ g h. rw c.at_start.ensures (striking_begins g _ _ _ _ _ c.front_at.ensures h))
 
 pub strike_step-m-requires : goal.strike_step-m-requires
 strike_step-m-requires c =
-    record { exists = record { value = strike_of c.requires.value; has = c.loop-m.invariant.1 c.requires.value c.requires.has }; at_nonzero = c.loop-m-test.true }
+    let h = c.requires in
+    record { exists = record { value = strike_of h.value; has = c.loop-m.invariant.1 h.value h.has }; at_nonzero = c.loop-m-test.true }
 
 pub loop-m-smaller : goal.loop-m-smaller
 loop-m-smaller c =

@@ -2,10 +2,6 @@
 use Rattle.merge_strike.proofs.Strikes.{lower_in_table, points_walk, ranges_walk, points_asked, ranges_asked, strikes}
 use Rattle.merge_strike.proofs.strike_step.Goals as goal
 
--- The facts, each by its clause's name.
-named : {A B : Type 0} → A × B → record { ahead : A; front_ordered : B }
-named p = record { ahead = p.0; front_ordered = p.1 }
-
 pub lo_of-key-requires : goal.lo_of-key-requires
 lo_of-key-requires c =
     lower_in_table _ _ _ c.requires.exists.has
@@ -24,10 +20,11 @@ stamp_of-stamp-requires c =
 
 pub is_struck-goes-requires : goal.is_struck-goes-requires
 is_struck-goes-requires c =
-    let w = c.requires.exists.has in named ((
-      points_asked _ _ _ w _ _ c.lo_of-key.ensures c.seek-points.ensures,
-      ranges_asked _ _ _ w _ _ c.lo_of-key.ensures c.seek-points.ensures _ c.advance-ranges.ensures,
-    ))
+    let w = c.requires.exists.has in
+    record {
+      ahead = points_asked _ _ _ w _ _ c.lo_of-key.ensures c.seek-points.ensures;
+      front_ordered = ranges_asked _ _ _ w _ _ c.lo_of-key.ensures c.seek-points.ensures _ c.advance-ranges.ensures;
+    }
 
 pub returns : goal.returns
 returns c =

@@ -1,35 +1,55 @@
 -- `scan::scan`: each turn fills a row and comes to the next live docket; where there is none, or no row is left, the rows are the scan's.
-use mathlib.Core.Path.{◌≡◌, sym, ◌∙◌}
-use mathlib.Core.Bool.{true, false}
+use mathlib.Core.Path.{refl, sym}
 use native.Mathlib.Numerals.{add-one}
-use lib.ListN.{length}
-use Rattle.scan.specs.Scan.{written, scan_tables}
-use Rattle.scan.specs.Sweeps.{has_row}
-use Rattle.scan.proofs.Reached.{kept_length, turned, stored, ended}
+use native.Mathlib.Omega.{arith}
+use Rattle.std.proofs.lemmas.List.{set-get_or}
+use Rattle.tables.specs.Words.{Fits32}
+use Rattle.scan_sweep.proofs.Arriving.{advanced_sweeping, advanced_rows}
+use Rattle.scan.proofs.Refusals.{allowed_readable, allowed_sweeping, begun, accepted}
+use Rattle.scan.proofs.Reached.{turn_inside, stored, turned, ended_none, ended}
 use Rattle.scan.proofs.scan.Goals as goal
 
-pub loop-rows-preserved : goal.loop-rows-preserved
-loop-rows-preserved c =
+pub set_out-requires : goal.set_out-requires
+set_out-requires g c =
+    allowed_readable _ _ c.args.lo c.args.hi c.in_ok-check_dockets.ensures
+
+pub search-m-requires : goal.search-m-requires
+search-m-requires g c =
+    rw c.set_out.ensures (allowed_sweeping _ _ _ _ c.in_ok-check_dockets.ensures)
+
+pub loop-count-init : goal.loop-count-init
+loop-count-init g c = record {
+  reached = begun _ _ _ _ c.in_ok-check_dockets.ensures (λ i. (c.shared_slice_known-1.given i).fits) (rw (c.search-m.ensures, c.set_out.ensures));
+  inside = omega arith;
+  filled = refl;
+}
+
+pub returns-in_default : goal.returns-in_default
+returns-in_default g c =
     let a = c.args in
-    let w = c.loop-rows in
-    let same : length w.rows ≡ length a.rows.now =
-    rw w.invariant.filled (kept_length written a.entries.now a.levels.now a.lo a.hi a.rows.now w.i w.m w.invariant.reached) in
-    let goes : has_row w.m w.i (length a.rows.now) ≡ true = rw same at (sym c.goes_on.ensures ∙ c.loop-rows-test.true) in record {
-      refused = c.docket_refusal-refusal.ensures;
+    let w = c.loop-count in
+    rw (set-get_or w.rows w.count c.index-rows-count.result, w.invariant.filled, accepted _ _ _ _ c.in_ok-check_dockets.ensures g.R.Listed.shown a.rows.now)
+    (ended_none g.R.Listed.shown _ _ _ _ a.rows.now w.count w.m w.invariant.reached (sym c.in_default.ensures) w.invariant.inside (omega arith))
+
+pub loop-count-preserved : goal.loop-count-preserved
+loop-count-preserved g c =
+    let a = c.args in
+    let w = c.loop-count in
+    let is = sym c.in-Some.ensures in
+    let words : Fits32 a.entries.now = λ i. (c.shared_slice_known-1.given i).fits in
+    let sweeping = w.invariant.reached.sweeping in
+    record {
       reached = rw add-one
-          (turned written a.entries.now a.levels.now a.lo a.hi a.rows.now w.i w.m w.invariant.reached goes c.next-m.result c.next-m.ensures.sweeping
-          c.next-m.ensures.result_value);
-      filled = rw (w.invariant.filled, c.row_of.ensures, add-one)
-          (stored written a.entries.now a.levels.now a.lo a.hi a.rows.now w.i w.m w.invariant.reached goes);
+          (turned g.R.Listed.shown _ _ _ _ a.rows.now w.count w.m w.invariant.reached c.in-Some.live is c.advance-m.result
+          (rw c.advance-m.ensures (advanced_sweeping a.entries.now words sweeping)) (rw c.advance-m.ensures (advanced_rows a.entries.now words sweeping)));
+      inside = omega (arith, turn_inside g.R.Listed.shown _ _ _ _ a.rows.now w.count w.m w.invariant.reached c.in-Some.live is);
+      filled = rw (w.invariant.filled, c.of.ensures, add-one)
+          (stored g.R.Listed.shown _ _ _ _ a.rows.now w.count w.m w.invariant.reached c.in-Some.live is (omega arith));
     }
 
 pub returns : goal.returns
-unfolding scan_tables
-returns c =
+returns g c =
     let a = c.args in
-    let w = c.loop-rows in
-    let same : length w.rows ≡ length a.rows.now =
-    rw w.invariant.filled (kept_length written a.entries.now a.levels.now a.lo a.hi a.rows.now w.i w.m w.invariant.reached) in
-    let over : has_row w.m w.i (length a.rows.now) ≡ false = rw same at (sym c.goes_on.ensures ∙ c.loop-rows-test.false) in
-    rw (w.invariant.filled, c.close.ensures)
-    (ended written a.entries.now a.levels.now a.lo a.hi a.rows.now w.i w.m w.invariant.reached over _ c.docket_refusal-refusal.ensures)
+    let w = c.loop-count in
+    rw (w.invariant.filled, accepted _ _ _ _ c.in_ok-check_dockets.ensures g.R.Listed.shown a.rows.now)
+    (ended g.R.Listed.shown _ _ _ _ a.rows.now w.count w.m w.invariant.reached w.invariant.inside (omega arith) _ c.next_docket.ensures)

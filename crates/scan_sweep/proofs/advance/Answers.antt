@@ -1,12 +1,7 @@
 -- `scan_sweep::advance`: one step past a record is enough, or the search from where it leads arrives where the sweep was to arrive.
 use Rattle.scan_step.proofs.Steps.{standing_sweeping, near_leads}
-use Rattle.scan_sweep.proofs.Arriving.{advanced_at_once, advanced_later}
+use Rattle.scan_sweep.proofs.Arriving.{advanced_later}
 use Rattle.scan_sweep.proofs.advance.Goals as goal
-
-pub returns-then-r-eq-ARRIVED : goal.returns-then-r-eq-ARRIVED
-returns-then-r-eq-ARRIVED c =
-    let a = c.args in
-    advanced_at_once a.e.now ((λ i. (c.shared_slice_known-1.given i).fits)) a.m c.near-r.ensures c.if-r-eq-ARRIVED.true
 
 pub search-requires : goal.search-requires
 search-requires c =

@@ -12,10 +12,12 @@ named p = record { ready = p.0; docket_bound = p.1 }
 
 pub survey-above-requires : goal.survey-above-requires
 survey-above-requires c =
-    named (rw (c.level_of-level.ensures, c.key_of-key.ensures) (above_ready c.requires.sweeping c.requires.m_bound, omega (arith, c.requires.sweeping.last, c.requires.m_bound)))
+    let s = c.requires.sweeping in
+    named (rw (c.level_of.ensures, c.key_of.ensures) (above_ready s c.requires.m_bound, omega (arith, s.last, c.requires.m_bound)))
 
 pub returns : goal.returns
 returns c =
-    let view_is : let a = c.args in
-    ◌≡◌ {A = View} (record { ranges = c.survey-above.new.ranges; cover = c.survey-above.result }) (surveyed a.e.now (next_key a.m) (next_level a.m) a.m.ranges) = rw (c.level_of-level.ensures, c.key_of-key.ensures) at c.survey-above.ensures in
+    let a = c.args in
+    let view_is : ◌≡◌ {A = View} (record { ranges = c.survey-above.new.ranges; cover = c.survey-above.result })
+    (surveyed a.e.now (next_key a.m) (next_level a.m) a.m.ranges) = rw (c.level_of.ensures, c.key_of.ensures) at c.survey-above.ensures in
     above_is c.requires.sweeping c.requires.m_bound (λ i. (c.shared_slice_known-1.given i).fits) view_is

@@ -1,17 +1,9 @@
 -- `scan_sweep::search`: the loop keeps that from here on the sweep arrives where it was to arrive, and each turn passes a record.
-use mathlib.Core.Path.{refl, sym, ◌∙◌}
-use Rattle.scan_step.proofs.Steps.{standing_sweeping, fewer_steps}
+use mathlib.Core.Path.{sym, ◌∙◌}
+use Rattle.scan_step.proofs.Steps.{fewer_steps}
 use Rattle.scan_sweep.proofs.Crossing.{step_stepped}
 use Rattle.scan_sweep.proofs.Arriving.{turned, stopped}
 use Rattle.scan_sweep.proofs.search.Goals as goal
-
-pub loop-r-init : goal.loop-r-init
-loop-r-init c =
-    (standing_sweeping c.requires, refl)
-
-pub step-r-requires : goal.step-r-requires
-step-r-requires c =
-    c.loop-r.invariant.0
 
 pub loop-r-smaller : goal.loop-r-smaller
 loop-r-smaller c =

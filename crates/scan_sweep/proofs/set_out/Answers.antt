@@ -1,10 +1,9 @@
 -- `scan_sweep::set_out`: the loop keeps that with the levels still to come the heads and the ranges are those of all.
 use mathlib.Core.List.{List}
-use mathlib.Core.Path.{◌≡◌, refl, sym, ap, ◌∙◌}
-use Prim.Native.Nat.{ℕ, ◌+◌, ◌-◌, ◌*◌, ◌<◌, ◌≤◌}
+use mathlib.Core.Path.{◌≡◌, sym, ap, ◌∙◌}
+use Prim.Native.Nat.{ℕ, ◌+◌, ◌<◌, ◌≤◌}
 use native.Mathlib.Numerals.{add-one}
 use native.Mathlib.Omega.{arith}
-use lib.ListN.{length-set}
 use Rattle.lists.proofs.Loops.{iterate_end, iterate_next}
 use Rattle.tables.specs.Rows.{settings_of}
 use Rattle.tables.specs.Sound.{chain_from}
@@ -40,110 +39,42 @@ opens : (e l : List ℕ) (lo hi levels : ℕ) (heads : Heads) (ranges : List ℕ
     } ≡ opened e l lo hi
 opens e l lo hi levels heads ranges n h r = rw (h, r, n)
 
-pub deepest_of-levels-requires : goal.deepest_of-levels-requires
-deepest_of-levels-requires c =
-    omega (arith, c.requires.rows)
-
-pub overflow_add-levels : goal.overflow_add-levels
-overflow_add-levels c =
-    omega (arith, c.deepest_of-levels.ensures, c.requires.shallow)
-
-pub loop-i-init : goal.loop-i-init
-loop-i-init c =
-    let all : c.deepest_of-levels.result + 1 - 0 ≡ c.deepest_of-levels.result + 1 = omega arith in
-    (omega arith, omega (arith, c.deepest_of-levels.ensures), refl, rw (c.nothing-heads.ensures, all), rw all)
-
-pub level_at-row-requires : goal.level_at-row-requires
-level_at-row-requires c =
-    let level_in : c.loop-i.i ≤ (settings_of c.args.l.now).deepest = omega (arith, c.loop-i.invariant.1, c.loop-i-test.true) in
-    omega (arith, level_in, c.requires.rows)
-
-pub seek-requires : goal.seek-requires
-seek-requires c =
-    let level_in : c.loop-i.i ≤ (settings_of c.args.l.now).deepest = omega (arith, c.loop-i.invariant.1, c.loop-i-test.true) in
-    rw (ap (λ (v : Level). v.points) c.level_at-row.ensures) (c.requires.points c.loop-i.i level_in)
-
-pub head-requires : goal.head-requires
-head-requires c =
-    let level_in : c.loop-i.i ≤ (settings_of c.args.l.now).deepest = omega (arith, c.loop-i.invariant.1, c.loop-i-test.true) in
-    let found : c.seek.result ≡ (first_from c.args.e.now c.args.l.now c.args.lo c.loop-i.i) = let e = c.args.e.now in
-    let lo = c.args.lo in
-    c.seek.ensures ∙ ap (λ (v : Level). first_slot (beginning e lo (chain_from e v.points))) c.level_at-row.ensures in
+pub head-requires-clause-ordered : goal.head-requires-clause-ordered
+head-requires-clause-ordered c =
     let i = c.loop-i.i in
+    let e = c.args.e.now in
     let lo = c.args.lo in
-    let deep = level_in in
-    rw found
-    (record { ordered = front_is_ordered c.requires lo i (omega arith); level_bound = omega (arith, c.requires.shallow); slot_bound = front_small c.requires lo i (omega arith) })
+    let level : i ≤ (settings_of c.args.l.now).deepest = omega (arith, c.loop-i.invariant.0) in
+    rw (c.seek.ensures, ap (λ (v : Level). first_slot (beginning e lo (chain_from e v.points))) c.level_at-row.ensures)
+    (front_is_ordered c.requires lo i (omega arith))
 
-pub front_at-f-requires : goal.front_at-f-requires
-front_at-f-requires c =
-    let level_in : c.loop-i.i ≤ (settings_of c.args.l.now).deepest = omega (arith, c.loop-i.invariant.1, c.loop-i-test.true) in
-    rw (ap (λ (v : Level). v.ranges) c.level_at-row.ensures) (c.requires.ranges c.loop-i.i level_in)
-
-pub overflow_mul-at : goal.overflow_mul-at
-overflow_mul-at c =
-    let level_in : c.loop-i.i ≤ (settings_of c.args.l.now).deepest = omega (arith, c.loop-i.invariant.1, c.loop-i-test.true) in
-    let room : 2 * c.loop-i.i + 1 < 14 = omega (arith, level_in, c.requires.shallow) in
-    omega (arith, room)
+pub head-requires-clause-slot_bound : goal.head-requires-clause-slot_bound
+head-requires-clause-slot_bound c =
+    let i = c.loop-i.i in
+    let e = c.args.e.now in
+    let lo = c.args.lo in
+    let level : i ≤ (settings_of c.args.l.now).deepest = omega (arith, c.loop-i.invariant.0) in
+    rw (c.seek.ensures, ap (λ (v : Level). first_slot (beginning e lo (chain_from e v.points))) c.level_at-row.ensures)
+    (front_small c.requires lo i (omega arith))
 
 pub overflow_cast-ranges : goal.overflow_cast-ranges
 overflow_cast-ranges c =
-    let level_in : c.loop-i.i ≤ (settings_of c.args.l.now).deepest = omega (arith, c.loop-i.invariant.1, c.loop-i-test.true) in
-    let low : (c.front_at-f.result.first ≤ 65535) × (c.front_at-f.result.behind ≤ 65535) = let o = front_at_ordered _ _ (c.requires.ranges c.loop-i.i level_in) in
-    rw (c.front_at-f.ensures, ap (λ (v : Level). v.ranges) c.level_at-row.ensures) (first_low o c.requires.size, behind_low o c.requires.size) in
-    omega (arith, low.0)
-
-pub offset_bounds-ranges-at : goal.offset_bounds-ranges-at
-offset_bounds-ranges-at c =
-    let level_in : c.loop-i.i ≤ (settings_of c.args.l.now).deepest = omega (arith, c.loop-i.invariant.1, c.loop-i-test.true) in
-    let room : 2 * c.loop-i.i + 1 < 14 = omega (arith, level_in, c.requires.shallow) in
-    omega (arith, room)
-
-pub bounds-ranges-at : goal.bounds-ranges-at
-bounds-ranges-at c =
-    let level_in : c.loop-i.i ≤ (settings_of c.args.l.now).deepest = omega (arith, c.loop-i.invariant.1, c.loop-i-test.true) in
-    let room : 2 * c.loop-i.i + 1 < 14 = omega (arith, level_in, c.requires.shallow) in
-    omega (arith, room, c.loop-i.invariant.2)
+    let o = front_at_ordered _ _ (c.requires.ranges c.loop-i.i (omega (arith, c.loop-i.invariant.0))) in
+    let low : c.front_at-f.result.first ≤ 65535 = rw (c.front_at-f.ensures, ap (λ (v : Level). v.ranges) c.level_at-row.ensures) (first_low o c.requires.size) in
+    omega arith
 
 pub overflow_cast-ranges-in-loop-i : goal.overflow_cast-ranges-in-loop-i
 overflow_cast-ranges-in-loop-i c =
-    let level_in : c.loop-i.i ≤ (settings_of c.args.l.now).deepest = omega (arith, c.loop-i.invariant.1, c.loop-i-test.true) in
-    let low : (c.front_at-f.result.first ≤ 65535) × (c.front_at-f.result.behind ≤ 65535) = let o = front_at_ordered _ _ (c.requires.ranges c.loop-i.i level_in) in
-    rw (c.front_at-f.ensures, ap (λ (v : Level). v.ranges) c.level_at-row.ensures) (first_low o c.requires.size, behind_low o c.requires.size) in
-    omega (arith, low.1)
-
-pub overflow_add-ranges : goal.overflow_add-ranges
-overflow_add-ranges c =
-    let level_in : c.loop-i.i ≤ (settings_of c.args.l.now).deepest = omega (arith, c.loop-i.invariant.1, c.loop-i-test.true) in
-    let room : 2 * c.loop-i.i + 1 < 14 = omega (arith, level_in, c.requires.shallow) in
-    omega (arith, room)
-
-pub offset_bounds-ranges-at-in-loop-i : goal.offset_bounds-ranges-at-in-loop-i
-offset_bounds-ranges-at-in-loop-i c =
-    let level_in : c.loop-i.i ≤ (settings_of c.args.l.now).deepest = omega (arith, c.loop-i.invariant.1, c.loop-i-test.true) in
-    let room : 2 * c.loop-i.i + 1 < 14 = omega (arith, level_in, c.requires.shallow) in
-    omega (arith, room)
-
-pub bounds-ranges-at-in-loop-i : goal.bounds-ranges-at-in-loop-i
-bounds-ranges-at-in-loop-i c =
-    let level_in : c.loop-i.i ≤ (settings_of c.args.l.now).deepest = omega (arith, c.loop-i.invariant.1, c.loop-i-test.true) in
-    let room : 2 * c.loop-i.i + 1 < 14 = omega (arith, level_in, c.requires.shallow) in
-    omega (arith, room, c.loop-i.invariant.2, length-set c.loop-i.ranges (2 * c.loop-i.i) c.front_at-f.result.first)
-
-pub overflow_add-i : goal.overflow_add-i
-overflow_add-i c =
-    omega (arith, c.loop-i-test.true)
-
-pub loop-i-smaller : goal.loop-i-smaller
-loop-i-smaller c =
-    omega (arith, c.loop-i-test.true)
+    let o = front_at_ordered _ _ (c.requires.ranges c.loop-i.i (omega (arith, c.loop-i.invariant.0))) in
+    let low : c.front_at-f.result.behind ≤ 65535 = rw (c.front_at-f.ensures, ap (λ (v : Level). v.ranges) c.level_at-row.ensures) (behind_low o c.requires.size) in
+    omega arith
 
 pub loop-i-preserved : goal.loop-i-preserved
 loop-i-preserved c =
     let found : c.seek.result ≡ (first_from c.args.e.now c.args.l.now c.args.lo c.loop-i.i) = let e = c.args.e.now in
     let lo = c.args.lo in
     c.seek.ensures ∙ ap (λ (v : Level). first_slot (beginning e lo (chain_from e v.points))) c.level_at-row.ensures in
-    let more = c.loop-i-test.true in
+    let more : c.loop-i.i < c.deepest_of-levels.result + 1 = omega arith in
     let e = c.args.e.now in
     let l = c.args.l.now in
     let lo = c.args.lo in
@@ -153,11 +84,10 @@ loop-i-preserved c =
     let pushed_is = c.push-heads.ensures ∙ ap (pushed heads) (c.head.ensures ∙ ap (head_at e i) found) in
     let front_is = c.front_at-f.ensures ∙ ap (λ (v : Level). front_at e v.ranges) c.level_at-row.ensures in
     let ranges_is = ap (put_front ranges i) front_is in (
-      omega (arith, more),
-      c.loop-i.invariant.1,
-      put_length ranges i c.front_at-f.result ∙ c.loop-i.invariant.2,
-      rw pushed_is (sym (iterate_next (push_level e l lo) _ i heads _ more (add-one _)) ∙ c.loop-i.invariant.3),
-      rw ranges_is (sym (iterate_next (range_level e l) _ i ranges _ more (add-one _)) ∙ c.loop-i.invariant.4),
+      c.loop-i.invariant.0,
+      put_length ranges i c.front_at-f.result ∙ c.loop-i.invariant.1,
+      rw pushed_is (sym (iterate_next (push_level e l lo) _ i heads _ more (add-one _)) ∙ c.loop-i.invariant.2),
+      rw ranges_is (sym (iterate_next (range_level e l) _ i ranges _ more (add-one _)) ∙ c.loop-i.invariant.3),
     )
 
 pub returns : goal.returns
@@ -168,6 +98,6 @@ returns c =
     let i = c.loop-i.i in
     let heads = c.loop-i.heads in
     let ranges = c.loop-i.ranges in
-    let heads_are = sym (iterate_end (push_level e l lo) _ i heads c.loop-i-test.false) ∙ c.loop-i.invariant.3 in
-    let ranges_are = sym (iterate_end (range_level e l) _ i ranges c.loop-i-test.false) ∙ c.loop-i.invariant.4 in
-    opens e l lo c.args.hi _ heads ranges c.loop-i.invariant.1 heads_are ranges_are
+    let heads_are = sym (iterate_end (push_level e l lo) _ i heads (omega arith)) ∙ c.loop-i.invariant.2 in
+    let ranges_are = sym (iterate_end (range_level e l) _ i ranges (omega arith)) ∙ c.loop-i.invariant.3 in
+    opens e l lo c.args.hi _ heads ranges c.loop-i.invariant.0 heads_are ranges_are

@@ -1,6 +1,6 @@
 use mathlib.Core.List.{List}
 use mathlib.Core.Path.{◌≡◌}
-use Prim.Native.Nat.{ℕ, ◌+◌, ◌-◌, ◌≤◌}
+use Prim.Native.Nat.{ℕ, ◌+◌, ◌-◌}
 use lib.ListN.{length}
 use Rattle.lists.specs.Lists.{iterate}
 use Rattle.tables.specs.Rows.{settings_of, level_row}
@@ -20,10 +20,6 @@ range_level e l i ranges = put_front ranges i (front_at e (level_row l i).ranges
 
 abbrev pub invariant-loop-i : goal.invariant-loop-i
 invariant-loop-i l =
-    (l.i ≤ l.levels) × (l.levels ≡ (settings_of l.l).deepest + 1) × (length l.ranges ≡ 14)
+    (l.levels ≡ (settings_of l.l).deepest + 1) × (length l.ranges ≡ 14)
     × (iterate (push_level l.e l.l l.lo) l.i (l.levels - l.i) l.heads ≡ opened_heads l.e l.l l.lo l.levels)
     × (iterate (range_level l.e l.l) l.i (l.levels - l.i) l.ranges ≡ opened_ranges l.e l.l l.levels)
-
-abbrev pub decreases-loop-i : goal.decreases-loop-i
-decreases-loop-i l =
-    l.levels - l.i

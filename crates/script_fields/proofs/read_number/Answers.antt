@@ -1,74 +1,41 @@
--- `script_fields::read_number`: the loop keeps that the value so far and the digits that are left make the whole number, and end where it ends.
-use mathlib.Core.Path.{sym}
-use native.Mathlib.Omega.{arith}
-use Rattle.script_fields.proofs.Reading.{Digit, digit, read_none, eleventh, grows_too_large, read_one, read_nothing, read_all}
+-- `script_fields::read_number`: a number is one to ten digits, and no larger than a u32 holds.
+use Rattle.std.proofs.Common.{rules, ◌≡◌, ◌<◌, ◌≤◌, ◌+◌, ◌∙◌, sym, ap, arith, length, drop, refl, drop_of_length-le}
+use Rattle.std.proofs.lemmas.List.{take_rest}
+use Rattle.std.specs.Prelude.{Some}
+use Rattle.script_fields.specs.Numbers.{digits, decimal}
+use Rattle.script_fields.proofs.Digits.{all_digits, digits_first}
+use Rattle.script_fields.proofs.Numbers.{too_large, number}
 use Rattle.script_fields.proofs.read_number.Goals as goal
 
-pub loop-start-init : goal.loop-start-init
-loop-start-init c =
-    read_none _ _
+pub returns-in_err-rest : goal.returns-in_err-rest
+unfolding digits
+returns-in_err-rest c =
+    let past : length c.args.text.now ≤ c.args.start = search rules in
+    c.from_residual.ensures ∙ rw (drop_of_length-le c.args.text.now past) refl
 
-pub overflow_sub-at : goal.overflow_sub-at
-overflow_sub-at c =
-    c.loop-start.invariant.onward
+pub slice_bounds-value_of-end : goal.slice_bounds-value_of-end
+slice_bounds-value_of-end c = rw c.count_digits-count.ensures (sym (ap (λ ds. length ds) (digits_first c.in_ok-rest.rest.now)))
 
-pub returns-then-at-start-eq-MOST_DIGITS : goal.returns-then-at-start-eq-MOST_DIGITS
-returns-then-at-start-eq-MOST_DIGITS c =
-    let digit_here : Digit c.args.text.now c.loop-start.at = digit _ _ c.is_digit.ensures c.loop-start-test.true in
-    sym (eleventh _ _ _ _ c.loop-start.invariant digit_here (omega arith))
+pub value_of-value-requires-clause-all : goal.value_of-value-requires-clause-all
+value_of-value-requires-clause-all c = rw (c.count_digits-count.ensures, digits_first c.in_ok-rest.rest.now) (all_digits c.in_ok-rest.rest.now)
 
-pub overflow_mul-value : goal.overflow_mul-value
-overflow_mul-value c =
-    omega (arith, c.loop-start.invariant.small)
-
-pub bounds-text-at : goal.bounds-text-at
-bounds-text-at c =
-    let digit_here : Digit c.args.text.now c.loop-start.at = digit _ _ c.is_digit.ensures c.loop-start-test.true in
-    digit_here.within
-
-pub overflow_sub-value : goal.overflow_sub-value
-overflow_sub-value c =
-    let digit_here : Digit c.args.text.now c.loop-start.at = digit _ _ c.is_digit.ensures c.loop-start-test.true in
-    omega (arith, digit_here.low)
-
-pub overflow_cast-value : goal.overflow_cast-value
-overflow_cast-value c =
-    let digit_here : Digit c.args.text.now c.loop-start.at = digit _ _ c.is_digit.ensures c.loop-start-test.true in
-    omega (arith, digit_here.high)
-
-pub overflow_add-value : goal.overflow_add-value
-overflow_add-value c =
-    let digit_here : Digit c.args.text.now c.loop-start.at = digit _ _ c.is_digit.ensures c.loop-start-test.true in
-    omega (arith, digit_here.high, c.loop-start.invariant.small)
-
-pub returns-then-value-gt-LARGEST : goal.returns-then-value-gt-LARGEST
-returns-then-value-gt-LARGEST c =
-    let digit_here : Digit c.args.text.now c.loop-start.at = digit _ _ c.is_digit.ensures c.loop-start-test.true in
-    sym (grows_too_large _ _ _ _ c.loop-start.invariant digit_here (omega arith))
-
-pub overflow_add-at : goal.overflow_add-at
-overflow_add-at c =
-    let digit_here : Digit c.args.text.now c.loop-start.at = digit _ _ c.is_digit.ensures c.loop-start-test.true in
-    omega (arith, digit_here.within)
-
-pub loop-start-smaller : goal.loop-start-smaller
-loop-start-smaller c =
-    let digit_here : Digit c.args.text.now c.loop-start.at = digit _ _ c.is_digit.ensures c.loop-start-test.true in
-    omega (arith, digit_here.within)
-
-pub loop-start-preserved : goal.loop-start-preserved
-loop-start-preserved c =
-    let digit_here : Digit c.args.text.now c.loop-start.at = digit _ _ c.is_digit.ensures c.loop-start-test.true in
-    read_one _ _ _ _ c.loop-start.invariant digit_here (omega arith) (omega arith)
-
-pub returns-then-at-start : goal.returns-then-at-start
-returns-then-at-start c =
-    sym (read_nothing _ _ _ _ c.loop-start.invariant c.is_digit.ensures c.loop-start-test.false c.if-at-start.true)
-
-pub overflow_cast-result : goal.overflow_cast-result
-overflow_cast-result c =
-    omega (arith, c.loop-start.invariant.small)
+pub returns-in_err-number : goal.returns-in_err-number
+returns-in_err-number c =
+    let from : c.in_ok-rest.rest.now ≡ drop c.args.start c.args.text.now = c.in_ok-rest.ensures.lookup.0.2 ∙ take_rest c.args.text.now c.args.start in
+    let small : c.value_of-value.result ≡ decimal 0 (digits (drop c.args.start c.args.text.now)) =
+    c.value_of-value.ensures ∙ rw (c.count_digits-count.ensures, digits_first c.in_ok-rest.rest.now, from) refl in
+    let ds = digits (drop c.args.start c.args.text.now) in
+    let large : 4294967296 ≤ c.value_of-value.result = search rules in
+    c.from_residual-in_err-number.ensures ∙ sym (too_large c.args.start ds (omega (arith, small, large)))
 
 pub returns : goal.returns
 returns c =
-    read_all _ _ _ _ c.loop-start.invariant c.is_digit.ensures c.loop-start-test.false c.if-at-start.false
+    let from : c.in_ok-rest.rest.now ≡ drop c.args.start c.args.text.now = c.in_ok-rest.ensures.lookup.0.2 ∙ take_rest c.args.text.now c.args.start in
+    let ds = digits (drop c.args.start c.args.text.now) in
+    let same : c.value_of-value.result ≡ decimal 0 ds =
+    c.value_of-value.ensures ∙ rw (c.count_digits-count.ensures, digits_first c.in_ok-rest.rest.now, from) refl in
+    let count : c.count_digits-count.result ≡ length ds = c.count_digits-count.ensures ∙ rw from refl in
+    let fits : c.value_of-value.result < 4294967296 = search rules in
+    let is : c.in_ok-number.number ≡ c.value_of-value.result = search rules in
+    (λ j. Some (record { number = (is ∙ same) j; end = c.args.start + count j }))
+    ∙ sym (number c.args.start ds (omega (arith, count)) (omega (arith, count)) (omega (arith, same, fits)))

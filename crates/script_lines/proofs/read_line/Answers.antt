@@ -1,80 +1,102 @@
--- `script_lines::read_line`: a line is its first byte and the rest, and each letter has the form that its function reads.
-use mathlib.Core.Path.{◌≡◌, refl, sym, ◌∙◌}
-use mathlib.Core.List.{◌∷◌}
-use Prim.Native.Nat.{ℕ}
-use lib.ListN.{get_or, drop}
-use Rattle.script_lines.specs.Lines.{line_of}
-use Rattle.script_lines.proofs.Letters.{empty, by_letter, no_letter}
+-- `script_lines::read_line`: a line is its first byte and the rest, and each letter has the form of so many numbers.
+use Rattle.std.proofs.Common.{◌∙◌, refl, rules}
+use Rattle.script_lines.specs.declared.Command.TheVariants.{Put, Delete, DeleteRange, DeleteRangeDated, Flush, Tick, Lookup}
+use Rattle.script_lines.specs.Lines.{make_of, line_of}
+use Rattle.script_lines.proofs.Forms.{all_read, none_read, empty, lettered, no_letter}
 use Rattle.script_lines.proofs.read_line.Goals as goal
 
-pub returns-then-text-eq0 : goal.returns-then-text-eq0
-returns-then-text-eq0 c =
-    sym (empty _ c.if-text-eq0.true)
+pub returns-in_err-first : goal.returns-in_err-first
+returns-in_err-first c = c.from_residual.ensures ∙ empty c.args.text.now c.in_err-first.ensures.value
 
-pub returns-in-77 : goal.returns-in-77
+pub returns-in_err-slots-in-77 : goal.returns-in_err-slots-in-77
 unfolding line_of
-returns-in-77 c =
-    let lettered : (letter : ℕ) → get_or c.args.text.now 0 0 ≡ letter
-    → line_of c.args.text.now ≡ line_of (letter ∷ drop 1 c.args.text.now) = λ letter is. by_letter c.args.text.now letter c.if-text-eq0.false is in
-    c.read_make.ensures ∙ sym (lettered _ c.in-77.is)
+returns-in_err-slots-in-77 c =
+    c.from_residual-in_err-slots-in-77.ensures ∙ none_read 5 make_of _ c.in_err-slots-in-77.ensures
+    ∙ lettered c.args.text.now c.in_ok-first.ensures.value c.in-77.is
 
-pub returns-in-80 : goal.returns-in-80
+pub returns-in_ok-slots-in-77 : goal.returns-in_ok-slots-in-77
 unfolding line_of
-returns-in-80 c =
-    let lettered : (letter : ℕ) → get_or c.args.text.now 0 0 ≡ letter
-    → line_of c.args.text.now ≡ line_of (letter ∷ drop 1 c.args.text.now) = λ letter is. by_letter c.args.text.now letter c.if-text-eq0.false is in
-    c.read_put.ensures ∙ sym (lettered _ c.in-80.is)
+returns-in_ok-slots-in-77 c =
+    all_read 5 make_of _ c.in_ok-slots-in-77.ensures ∙ lettered c.args.text.now c.in_ok-first.ensures.value c.in-77.is
 
-pub returns-in-68 : goal.returns-in-68
+pub returns-in_err-clock-in-80 : goal.returns-in_err-clock-in-80
 unfolding line_of
-returns-in-68 c =
-    let lettered : (letter : ℕ) → get_or c.args.text.now 0 0 ≡ letter
-    → line_of c.args.text.now ≡ line_of (letter ∷ drop 1 c.args.text.now) = λ letter is. by_letter c.args.text.now letter c.if-text-eq0.false is in
-    c.read_delete.ensures ∙ sym (lettered _ c.in-68.is)
+returns-in_err-clock-in-80 c =
+    c.from_residual-in_err-clock-in-80.ensures ∙ none_read 4 Put _ c.in_err-clock-in-80.ensures
+    ∙ lettered c.args.text.now c.in_ok-first.ensures.value c.in-80.is
 
-pub returns-in-82 : goal.returns-in-82
+pub returns-in_ok-clock-in-80 : goal.returns-in_ok-clock-in-80
 unfolding line_of
-returns-in-82 c =
-    let lettered : (letter : ℕ) → get_or c.args.text.now 0 0 ≡ letter
-    → line_of c.args.text.now ≡ line_of (letter ∷ drop 1 c.args.text.now) = λ letter is. by_letter c.args.text.now letter c.if-text-eq0.false is in
-    c.read_delete_range.ensures ∙ sym (lettered _ c.in-82.is)
+returns-in_ok-clock-in-80 c =
+    all_read 4 Put _ c.in_ok-clock-in-80.ensures ∙ lettered c.args.text.now c.in_ok-first.ensures.value c.in-80.is
 
-pub returns-in-89 : goal.returns-in-89
+pub returns-in_err-clock-in-68 : goal.returns-in_err-clock-in-68
 unfolding line_of
-returns-in-89 c =
-    let lettered : (letter : ℕ) → get_or c.args.text.now 0 0 ≡ letter
-    → line_of c.args.text.now ≡ line_of (letter ∷ drop 1 c.args.text.now) = λ letter is. by_letter c.args.text.now letter c.if-text-eq0.false is in
-    c.read_delete_range_dated.ensures ∙ sym (lettered _ c.in-89.is)
+returns-in_err-clock-in-68 c =
+    c.from_residual-in_err-clock-in-68.ensures ∙ none_read 2 Delete _ c.in_err-clock-in-68.ensures
+    ∙ lettered c.args.text.now c.in_ok-first.ensures.value c.in-68.is
 
-pub returns-in-70 : goal.returns-in-70
+pub returns-in_ok-clock-in-68 : goal.returns-in_ok-clock-in-68
 unfolding line_of
-returns-in-70 c =
-    let lettered : (letter : ℕ) → get_or c.args.text.now 0 0 ≡ letter
-    → line_of c.args.text.now ≡ line_of (letter ∷ drop 1 c.args.text.now) = λ letter is. by_letter c.args.text.now letter c.if-text-eq0.false is in
-    c.read_flush.ensures ∙ sym (lettered _ c.in-70.is)
+returns-in_ok-clock-in-68 c =
+    all_read 2 Delete _ c.in_ok-clock-in-68.ensures ∙ lettered c.args.text.now c.in_ok-first.ensures.value c.in-68.is
 
-pub returns-in-84 : goal.returns-in-84
+pub returns-in_err-clock-in-82 : goal.returns-in_err-clock-in-82
 unfolding line_of
-returns-in-84 c =
-    let lettered : (letter : ℕ) → get_or c.args.text.now 0 0 ≡ letter
-    → line_of c.args.text.now ≡ line_of (letter ∷ drop 1 c.args.text.now) = λ letter is. by_letter c.args.text.now letter c.if-text-eq0.false is in
-    c.read_tick.ensures ∙ sym (lettered _ c.in-84.is)
+returns-in_err-clock-in-82 c =
+    c.from_residual-in_err-clock-in-82.ensures ∙ none_read 3 DeleteRange _ c.in_err-clock-in-82.ensures
+    ∙ lettered c.args.text.now c.in_ok-first.ensures.value c.in-82.is
 
-pub returns-in-71 : goal.returns-in-71
+pub returns-in_ok-clock-in-82 : goal.returns-in_ok-clock-in-82
 unfolding line_of
-returns-in-71 c =
-    let lettered : (letter : ℕ) → get_or c.args.text.now 0 0 ≡ letter
-    → line_of c.args.text.now ≡ line_of (letter ∷ drop 1 c.args.text.now) = λ letter is. by_letter c.args.text.now letter c.if-text-eq0.false is in
-    c.read_lookup.ensures ∙ sym (lettered _ c.in-71.is)
+returns-in_ok-clock-in-82 c =
+    all_read 3 DeleteRange _ c.in_ok-clock-in-82.ensures ∙ lettered c.args.text.now c.in_ok-first.ensures.value c.in-82.is
+
+pub returns-in_err-clock-in-89 : goal.returns-in_err-clock-in-89
+unfolding line_of
+returns-in_err-clock-in-89 c =
+    c.from_residual-in_err-clock-in-89.ensures ∙ none_read 4 DeleteRangeDated _ c.in_err-clock-in-89.ensures
+    ∙ lettered c.args.text.now c.in_ok-first.ensures.value c.in-89.is
+
+pub returns-in_ok-clock-in-89 : goal.returns-in_ok-clock-in-89
+unfolding line_of
+returns-in_ok-clock-in-89 c =
+    all_read 4 DeleteRangeDated _ c.in_ok-clock-in-89.ensures ∙ lettered c.args.text.now c.in_ok-first.ensures.value c.in-89.is
+
+pub returns-in_err-clock-in-70 : goal.returns-in_err-clock-in-70
+unfolding line_of
+returns-in_err-clock-in-70 c =
+    c.from_residual-in_err-clock-in-70.ensures ∙ none_read 1 Flush _ c.in_err-clock-in-70.ensures
+    ∙ lettered c.args.text.now c.in_ok-first.ensures.value c.in-70.is
+
+pub returns-in_ok-clock-in-70 : goal.returns-in_ok-clock-in-70
+unfolding line_of
+returns-in_ok-clock-in-70 c =
+    all_read 1 Flush _ c.in_ok-clock-in-70.ensures ∙ lettered c.args.text.now c.in_ok-first.ensures.value c.in-70.is
+
+pub returns-in_err-clock-in-84 : goal.returns-in_err-clock-in-84
+unfolding line_of
+returns-in_err-clock-in-84 c =
+    c.from_residual-in_err-clock-in-84.ensures ∙ none_read 1 Tick _ c.in_err-clock-in-84.ensures
+    ∙ lettered c.args.text.now c.in_ok-first.ensures.value c.in-84.is
+
+pub returns-in_ok-clock-in-84 : goal.returns-in_ok-clock-in-84
+unfolding line_of
+returns-in_ok-clock-in-84 c =
+    all_read 1 Tick _ c.in_ok-clock-in-84.ensures ∙ lettered c.args.text.now c.in_ok-first.ensures.value c.in-84.is
+
+pub returns-in_err-key-in-71 : goal.returns-in_err-key-in-71
+unfolding line_of
+returns-in_err-key-in-71 c =
+    c.from_residual-in_err-key-in-71.ensures ∙ none_read 1 Lookup _ c.in_err-key-in-71.ensures
+    ∙ lettered c.args.text.now c.in_ok-first.ensures.value c.in-71.is
+
+pub returns-in_ok-key-in-71 : goal.returns-in_ok-key-in-71
+unfolding line_of
+returns-in_ok-key-in-71 c =
+    all_read 1 Lookup _ c.in_ok-key-in-71.ensures ∙ lettered c.args.text.now c.in_ok-first.ensures.value c.in-71.is
 
 pub returns-in_default : goal.returns-in_default
 returns-in_default c =
-    let lettered : (letter : ℕ) → get_or c.args.text.now 0 0 ≡ letter
-    → line_of c.args.text.now ≡ line_of (letter ∷ drop 1 c.args.text.now) = λ letter is. by_letter c.args.text.now letter c.if-text-eq0.false is in
-    let others = c.in_default.in_default-own.rest in
-    let first_six = others.0.0 in
-    let first_four = first_six.0.0 in
-    let first_two = first_four.0.0 in
-    sym
-    (lettered _ refl
-    ∙ no_letter _ _ first_two.0.1 first_two.1 first_four.0.1 first_four.1 first_six.0.1 first_six.1 others.0.1 others.1)
+    no_letter _ _ (search rules) (search rules) (search rules) (search rules) (search rules) (search rules) (search rules) (search rules)
+    ∙ lettered c.args.text.now c.in_ok-first.ensures.value refl

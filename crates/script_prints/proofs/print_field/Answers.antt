@@ -1,43 +1,24 @@
 -- `script_prints::print_field`: the digits are a text at the position, the ending is a text after them, and both together are the field.
-use mathlib.Core.List.{[], ◌∷◌}
-use Prim.Native.Nat.{◌≤◌}
-use lib.ListN.{length}
-use native.Mathlib.Omega.{arith}
+use Rattle.std.proofs.Common.{[], ◌∷◌, arith}
 use Rattle.script_prints.specs.Texts.{decimal_text}
 use Rattle.script_prints.proofs.Digits.{length_decimal}
 use Rattle.script_prints.proofs.Overwrites.{printed_byte, printed_append}
 use Rattle.script_prints.proofs.print_field.Goals as goal
 
--- The facts, each by its clause's name.
-named : {A B : Type 0} → A × B → record { value : A; out_after : B }
-named p = record { value = p.0; out_after = p.1 }
-
-pub overflow_add-end : goal.overflow_add-end
-overflow_add-end c =
-    let few : length (decimal_text c.args.number) ≤ 10 = length_decimal c.args.number in
-    omega (arith, few)
-
-pub print_digits-requires : goal.print_digits-requires
-print_digits-requires c =
-    let few : length (decimal_text c.args.number) ≤ 10 = length_decimal c.args.number in
-    let digits = few in
-    record { end_value = omega arith; end_in_bounds = omega arith }
+pub print_digits-end-requires : goal.print_digits-end-requires
+print_digits-end-requires c = omega (arith, length_decimal c.args.number)
 
 pub bounds-out-end : goal.bounds-out-end
-bounds-out-end c =
-    let few : length (decimal_text c.args.number) ≤ 10 = length_decimal c.args.number in
-    omega (arith, few)
+bounds-out-end c = omega (arith, c.print_digits-end.ensures.value, c.print_digits-end.auto.out, length_decimal c.args.number)
 
 pub overflow_add-result : goal.overflow_add-result
-overflow_add-result c =
-    let few : length (decimal_text c.args.number) ≤ 10 = length_decimal c.args.number in
-    omega (arith, few)
+overflow_add-result c = omega (arith, c.print_digits-end.ensures.value, length_decimal c.args.number)
 
-pub returns : goal.returns
-returns c =
-    let few : length (decimal_text c.args.number) ≤ 10 = length_decimal c.args.number in
+pub returns-clause-out_after : goal.returns-clause-out_after
+returns-clause-out_after c =
     let a = c.args in
-    let digits = few in
-    named (printed_append _ _ _ a.at _ _ (decimal_text a.number) (a.ending ∷ []) (omega arith)
-    (omega arith, c.print_digits.ensures)
-    (printed_byte _ _ _ (omega arith)))
+    let few = length_decimal a.number in
+    let room = c.print_digits-end.ensures.value in
+    (printed_append a.out.now _ _ a.at _ _ (decimal_text a.number) (a.ending ∷ []) (omega (arith, few))
+    (room, c.print_digits-end.ensures.out_after)
+    (printed_byte _ _ _ (omega (arith, few, room, c.print_digits-end.auto.out)))).1

@@ -1,15 +1,19 @@
 -- `script_stream::finish`: with no byte of a line kept nothing is left to do, and with some the line ends as if a line feed had come.
-use native.Mathlib.Omega.{arith}
+use Rattle.std.proofs.Common.{rules, ◌≡◌, ◌≢◌, ◌≤◌, length, arith}
+use Rattle.script_buffer.specs.Room.{progress_of}
 use Rattle.script_stream.proofs.Steps.{finishes_none, finishes_line}
 use Rattle.script_stream.proofs.finish.Goals as goal
 
-pub returns-then-m-eq0 : goal.returns-then-m-eq0
-returns-then-m-eq0 c =
-    let a = c.args in
-    record { result_after = finishes_none a.entries.now a.levels.now a.line.now a.output.now a.m c.if-m-eq0.true; ready_2 = c.requires.ready; waiting_bound = omega arith }
+pub returns-then-not-is_empty-clause-result_after : goal.returns-then-not-is_empty-clause-result_after
+returns-then-not-is_empty-clause-result_after g c =
+    let s = c.args.script.now in
+    let whole : length s.line.bytes ≡ 64 = s.line.whole in
+    let within : s.line.count ≤ 64 = s.line.within in
+    let some : s.line.count ≢ 0 = search rules in
+    finishes_line s.store.entries s.store.levels s.line.bytes s.output.bytes (progress_of s) _ (omega (arith, whole, within)) some c.end_line.ensures.result_after
 
-pub returns : goal.returns
-returns c =
-    let a = c.args in
-    let done = finishes_line a.entries.now a.levels.now a.line.now a.output.now a.m _ c.requires.ready c.if-m-eq0.false c.end_line.ensures.result_after in
-    record { result_after = done; ready_2 = c.end_line.ensures.ready_2; waiting_bound = c.end_line.ensures.waiting_bound }
+pub returns-else-not-is_empty-clause-result_after : goal.returns-else-not-is_empty-clause-result_after
+returns-else-not-is_empty-clause-result_after g c =
+    let s = c.args.script.now in
+    let none : s.line.count ≡ 0 = search rules in
+    finishes_none s.store.entries s.store.levels s.line.bytes s.output.bytes (progress_of s) none

@@ -1,4 +1,4 @@
-use Prim.Native.Nat.{ℕ, ◌-◌, ◌≤◌}
+use Rattle.std.proofs.Common.{ℕ}
 use Rattle.model.specs.declared.Tally.{Tally}
 use Rattle.model.specs.Records.{State}
 use Rattle.table_levels.specs.Levels.{RowsAre}
@@ -6,9 +6,4 @@ use Rattle.table_levels.proofs.Adds.{Adds}
 use Rattle.table_levels.proofs.held_all.Given as goal
 
 abbrev pub invariant-loop-i : goal.invariant-loop-i
-invariant-loop-i l =
-    (l.i ≤ l.levels) × ((p : State ℕ Tally) → RowsAre p l.l → Adds p l.l l.levels l.held l.i)
-
-abbrev pub decreases-loop-i : goal.decreases-loop-i
-decreases-loop-i l =
-    l.levels - l.i
+invariant-loop-i l = (p : State ℕ Tally) → RowsAre p l.l → Adds p l.l l.i-end l.held l.i

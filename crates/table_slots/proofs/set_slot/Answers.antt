@@ -1,12 +1,11 @@
 -- `set_slot`: its two stores, and those of `set_tally`, are in their order those of `set_slot`.
-use mathlib.Core.Path.{◌≡◌, sym, ap, ◌∙◌}
+use mathlib.Core.Path.{◌≡◌, sym, ◌∙◌}
 use mathlib.Core.List.{List}
 use Prim.Native.Nat.{ℕ, ◌+◌, ◌*◌}
-use native.Mathlib.Omega.{arith}
-use lib.ListN.{length, set, length-set}
+use lib.ListN.{set}
 use Rattle.model.specs.declared.Tally.{Tally}
 use Rattle.tables.specs.Slots.{slot_size, slot_at, set_slot, with_tally}
-use Rattle.tables.proofs.Slots.{length-set_slot, tally_written}
+use Rattle.tables.proofs.Slots.{tally_written}
 use Rattle.table_slots.proofs.set_slot.Goals as goal
 
 -- The first two words written, then the others.
@@ -15,18 +14,6 @@ all_written : (e : List ℕ) (s link span : ℕ) (a : Tally) (t : ℕ)
     set_slot f s (with_tally a t (slot_at f s)) ≡ set_slot e s (record { link = link; span = span; tally = a; stamp = t })
 unfolding set_slot
 all_written e s link span a t = sym (tally_written (set (set e (slot_size * s) link) (slot_size * s + 1) span) s a t)
-
-pub bounds-e-slot-2 : goal.bounds-e-slot-2
-bounds-e-slot-2 c =
-    simp length-set (omega arith)
-
-pub set_tally-requires : goal.set_tally-requires
-set_tally-requires c =
-    simp length-set (omega arith)
-
-pub shape_of-e : goal.shape_of-e
-shape_of-e c =
-    ap length c.set_tally.ensures ∙ length-set_slot _ _ _ ∙ simp length-set
 
 pub returns : goal.returns
 returns c =

@@ -1,26 +1,23 @@
 -- The range of the same dockets is searched for, and the later of the two dates is kept.
-use Rattle.write_enter.proofs.Unites.{no_alike, alike_in_table, alike_earlier, alike_later}
+use borrow.Author.Rules.{rules}
+use Rattle.chain_sieve.specs.Doomed.{has_span}
+use Rattle.chain_sieve.proofs.Decisions.{decides}
+use Rattle.write_enter.proofs.Unites.{alike_in_table, alike_later}
 use Rattle.write_enter.proofs.unite.Goals as goal
 
-pub first_doomed-alike-requires : goal.first_doomed-alike-requires
-first_doomed-alike-requires c =
-    c.requires
+pub first_doomed-requires : goal.first_doomed-requires
+first_doomed-requires c =
+    record { held = c.requires; decides = record { value = has_span c.args.w.lo c.args.w.hi; has = search (rules, decides) } }
 
-pub returns-then-alike-eq0 : goal.returns-then-alike-eq0
-returns-then-alike-eq0 c =
-    λ g h. no_alike h c.args.w (c.first_doomed-alike.ensures _ h) c.if-alike-eq0.true
-
-pub date_of-date-requires : goal.date_of-date-requires
-date_of-date-requires c =
+pub date_of-requires : goal.date_of-requires
+date_of-requires c =
+    let w = c.args.w in
     let h = c.requires.has in
-    alike_in_table h c.args.w (c.first_doomed-alike.ensures _ h) c.if-alike-eq0.false
-
-pub returns-then-date-w : goal.returns-then-date-w
-returns-then-date-w c =
-    λ g h.
-    alike_earlier h c.args.w (c.first_doomed-alike.ensures _ h) c.if-alike-eq0.false c.date_of-date.ensures c.if-date-w.true
+    alike_in_table h w (c.first_doomed.ensures _ (has_span w.lo w.hi) (search (rules, decides)) h) c.in-Some.is
 
 pub returns : goal.returns
 returns c =
     λ g h.
-    alike_later h c.args.w (c.first_doomed-alike.ensures _ h) c.if-alike-eq0.false c.date_of-date.ensures c.if-date-w.false
+    let w = c.args.w in
+    let found = c.first_doomed.ensures _ (has_span w.lo w.hi) (search (rules, decides)) h in
+    alike_later h w found c.in-Some.is c.date_of.ensures c.max-count.ensures

@@ -1,7 +1,0 @@
--- `deepest_of`: every word of the table fits a `usize`.
-use native.Mathlib.Omega.{arith}
-use Rattle.table_levels.proofs.deepest_of.Goals as goal
-
-pub overflow_cast-result : goal.overflow_cast-result
-overflow_cast-result c =
-    omega (arith, c.shared_slice_known-1.given 0)

@@ -1,0 +1,2 @@
+-- The kinds of slots.
+pub mod Kinds
