@@ -9,8 +9,8 @@ ROOT = pathlib.Path(__file__).parent.parent
 CRATES = ROOT / "crates"
 DOCS = ROOT / "docs"
 README = ROOT / "README.md"
-# But for the record of the port, which names what is gone.
-PAGES = [README, *sorted(page for page in DOCS.glob("*.md") if page.name != "PORT.md")]
+# But for the records of the port and of the design pass, which name what is gone.
+PAGES = [README, *sorted(page for page in DOCS.glob("*.md") if page.name not in ("PORT.md", "DESIGN-PASS.md"))]
 WIDTH = 120
 # The crates of the public calls.
 CALLS = ("make", "check_refusal", "call_any", "call_timed", "lookup", "scan", "guontrem", "script_lines", "script_command", "script_prints")
@@ -22,7 +22,7 @@ import reference  # noqa: E402
 CITED = re.compile(r"(?:crates/)?(\w+)/(specs|proofs|src|must-fail)(?:/([\w-]+)((?:[.:]+[^\s.`,]+)*))?(?:/)?")
 # Definition in `crates/tables/specs`: the names of the column stand there.
 COLUMN = re.compile(r"`crates/(\w+)/(specs|proofs)`")
-PUBLIC = re.compile(r"^\s*pub (?:extern \"C\" )?(?:fn|struct|enum|const) (\w+)", re.M)
+PUBLIC = re.compile(r"^\s*pub (?:extern \"C\" )?(?:fn|struct|enum|trait|const) (\w+)", re.M)
 # Words of the languages that the documents speak of, and names that stand for any.
 WORDS = {"requires", "std", "Unit", "slot", "stdout", "Natural"}
 
@@ -42,7 +42,7 @@ def defined_in(path):
     """The names that a file declares: definitions, records, fields, modules and functions."""
     text = path.read_text()
     if path.suffix == ".rt":
-        return set(re.findall(r"\b(?:fn|struct|enum|const|impl) (\w+)", text))
+        return set(re.findall(r"\b(?:fn|struct|enum|trait|const|impl) (\w+)", text))
     return set(re.findall(r"^\s*(?:(?:abbrev|unfoldable|pub|data|record|mod) )*([^\s:(){}=]+)(?=\s+(?::|\(|\{|where\b))", text, re.M))
 
 
