@@ -16,7 +16,7 @@ use Rattle.check_forms.specs.Forms.{free_fits}
 use Rattle.check_walk.specs.Walks.{Marked, after, walked, unmarked}
 use Rattle.check_walk.proofs.Each.{unmarked_each}
 use Rattle.check_walk.proofs.Passed.{passed_sum}
-use Rattle.check_level.specs.Levels.{leveled}
+use Rattle.check_level.specs.Levels.{leveled, fitting}
 use Rattle.check_level.proofs.Passed.{level_slots, level_passes}
 use Rattle.check_chains.specs.Levels.{unfit, levels_checked, words_fit, chains_checked}
 use Rattle.check_chains.proofs.Means.{level_nonzero, level_means}
@@ -29,13 +29,13 @@ pub record Levels (e l m₀ : List ℕ) (free : ℕ) (m : List ℕ) (total i : �
   pub rest : levels_checked e l ((settings_of l).deepest + 1 - i) i m total ≡ levels_checked e l ((settings_of l).deepest + 1) 0 m₀ free
 
 unroll : (e l : List ℕ) (j i : ℕ) (m : List ℕ) (total : ℕ) → 0 < j
-    → levels_checked e l j i m total ≡ after (leveled e l i m) (λ count marks. levels_checked e l (j - 1) (i + 1) marks (total + count)) unfit
+    → levels_checked e l j i m total ≡ after (fitting (leveled e l i m)) (λ count marks. levels_checked e l (j - 1) (i + 1) marks (total + count)) unfit
 unfolding levels_checked
 unroll e l zero i m total h = absurd (omega arith)
 unroll e l (suc j) i m total h = simp (sub-one, add-one)
 
 pub level_sum : (e l : List ℕ) (i : ℕ) (m : List ℕ) {m' : List ℕ} {a : Option ℕ} {k : ℕ} → slots_of e < 8 * length m
-    → record { answer = a; marks = m' } ≡ leveled e l i m → a ≡ Some k → k + unmarked (slots_of e) m' ≡ unmarked (slots_of e) m
+    → record { answer = a; marks = m' } ≡ fitting (leveled e l i m) → a ≡ Some k → k + unmarked (slots_of e) m' ≡ unmarked (slots_of e) m
 level_sum e l i m room w q =
     let ss = level_slots e l i in
     let fits = ap (λ (x : Marked (Option ℕ)). is_some x.answer) (sym w) ∙ ap is_some q in
@@ -52,7 +52,7 @@ module _ {e l m₀ : List ℕ} {free : ℕ} where
         none : (settings_of l).deepest + 1 - i ≡ 0
         none = omega (arith, h)
 
-    module _ (more : i ≤ (settings_of l).deepest) {m' : List ℕ} {a : Option ℕ} (w : record { answer = a; marks = m' } ≡ leveled e l i m) where
+    module _ (more : i ≤ (settings_of l).deepest) {m' : List ℕ} {a : Option ℕ} (w : record { answer = a; marks = m' } ≡ fitting (leveled e l i m)) where
       here : after (record { answer = a; marks = m' })
           (λ count marks. levels_checked e l ((settings_of l).deepest + 1 - i - 1) (i + 1) marks (total + count)) unfit
           ≡ levels_checked e l ((settings_of l).deepest + 1) 0 m₀ free

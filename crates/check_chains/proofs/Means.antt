@@ -23,7 +23,7 @@ use Rattle.check_walk.specs.Walks.{Marked, walked}
 use Rattle.check_walk.proofs.Chains.{chain_nonzero}
 use Rattle.check_walk.proofs.Each.{unmarked_each, mark_each, each_append}
 use Rattle.check_walk.proofs.Passed.{rows_fit, walk_means, walk_passes, after_asks}
-use Rattle.check_level.specs.Levels.{numbers_fit, leveled}
+use Rattle.check_level.specs.Levels.{numbers_fit, leveled, fitting}
 use Rattle.check_level.proofs.Passed.{level_slots, level_asks, level_passes}
 use Rattle.check_chains.specs.Levels.{unfit, levels_checked, words_fit, chains_checked}
 use Rattle.check_chains.proofs.Once.{Blank, marks_mean_once}
@@ -89,7 +89,7 @@ module _ (e l : List ℕ) (i : ℕ) where
   tail_bool a p b q n = grind arith
 
   -- A level is sound, and its slots have no mark yet.
-  pub level_means : (m : List ℕ) → is_some (leveled e l i m).answer ≡ level_sound e l i && unmarked_each (slots_of e) m (level_slots e l i)
+  pub level_means : (m : List ℕ) → is_some (fitting (leveled e l i m)).answer ≡ level_sound e l i && unmarked_each (slots_of e) m (level_slots e l i)
   level_means m =
       let owed = (level_row l i).owed in
       let ps = point_chain e l i in
@@ -116,13 +116,13 @@ module _ (e l : List ℕ) where
       let here = level_slots e l i in
       let n = slots_of e in
       let last = eqb (total + length here + length rest) n in
-      let fits = is_some (leveled e l i m).answer in
+      let fits = is_some (fitting (leveled e l i m)).answer in
       let sound = level_sound e l i in
       let rest_sound = levels_sound e l j (suc i) in
       let blank = unmarked_each n m here in
       let rest_blank = unmarked_each n (mark_each m here) rest in
       let sum : total + length here + length rest ≡ total + length (here ++ rest) = omega (arith, length-append here rest) in
-      after_asks (λ (x : Marked Bool). x.answer) (leveled e l i m) (λ count marks. levels_checked e l j (suc i) marks (total + count)) unfit
+      after_asks (λ (x : Marked Bool). x.answer) (fitting (leveled e l i m)) (λ count marks. levels_checked e l j (suc i) marks (total + count)) unfit
       (λ x. refl) (level_passes e l i m)
       ∙ ap (λ (b : Bool). fits && b) (levels_means j (suc i) (mark_each m here) (total + length here))
       ∙ rw (level_means e l i m, each_append n m here rest, ← sum)

@@ -5,7 +5,7 @@ use Rattle.tables.specs.Rows.{settings_of, level_row}
 use Rattle.tables.specs.Sound.{free_chain, top_blank}
 use Rattle.check_forms.specs.Forms.{free_fits}
 use Rattle.check_walk.specs.Walks.{Marked, after, walked}
-use Rattle.check_level.specs.Levels.{leveled}
+use Rattle.check_level.specs.Levels.{leveled, fitting}
 
 -- What does not fit; the marks so far stay.
 abbrev pub unfit : List ℕ → Marked Bool
@@ -14,7 +14,7 @@ unfit m = record { answer = false; marks = m }
 -- j levels from level i on, where total slots have been passed.
 unfoldable pub levels_checked : List ℕ → List ℕ → ℕ → ℕ → List ℕ → ℕ → Marked Bool
 levels_checked e l zero i m total = record { answer = eqb total (slots_of e); marks = m }
-levels_checked e l (suc j) i m total = after (leveled e l i m) (λ count marks. levels_checked e l j (suc i) marks (total + count)) unfit
+levels_checked e l (suc j) i m total = after (fitting (leveled e l i m)) (λ count marks. levels_checked e l j (suc i) marks (total + count)) unfit
 
 -- The words of slot 0 beside the first free slot and the clock, and what the deepest level owes are zero.
 abbrev pub words_fit : List ℕ → List ℕ → Bool

@@ -25,7 +25,7 @@ fn levels_fit(e: &[u32], l: &[u32], free: usize, marks: &mut [u8]) -> bool
 {
     let mut total = free;
     for i in 0..=deepest_of(l) {
-        let Some(count) = level(e, l, i, marks) else {
+        let Ok(count) = level(e, l, i, marks) else {
             return false;
         };
         total += count;

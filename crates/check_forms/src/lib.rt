@@ -22,12 +22,15 @@ pub trait Form {
 }
 
 // The free chain.
+#[derive(Clone, Copy)]
 pub struct Free;
 
 // A level's puts and deletes.
+#[derive(Clone, Copy)]
 pub struct Points;
 
 // A level's range deletes.
+#[derive(Clone, Copy)]
 pub struct Ranges;
 
 impl Form for Free {

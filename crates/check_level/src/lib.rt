@@ -24,16 +24,25 @@ fn numbers_fit(e: &[u32], l: &[u32], i: usize, count: usize) -> bool
     level.held == count && level.owed <= clock_of(e) && (count != 0 || level.owed == 0)
 }
 
-// A level's two chains, then its numbers, which need what the chains hold: how many records those are, where all fits.
-pub fn level(e: &[u32], l: &[u32], i: usize, marks: &mut [u8]) -> Option<usize>
+// A level's two chains, then its numbers, which need what the chains hold: how many records those are, where all fits. Where the numbers do not,
+// the records are told all the same, and a chain that does not fit counts none.
+pub fn level(e: &[u32], l: &[u32], i: usize, marks: &mut [u8]) -> Result<usize, usize>
     requires entries { Entries e.now }
     requires e_bound { slots_of e.now < 8 * length marks.old }
     requires in_rows { InRows l.now i }
     ensures { record { answer = result; marks = marks.new } ≡ leveled e.now l.now i marks.old }
 {
     let row = level_at(l, i);
-    let points = walk::<Points>(e, row.points, row.owed, marks)?;
-    let ranges = walk::<Ranges>(e, row.ranges, row.owed, marks)?;
+    let Some(points) = walk::<Points>(e, row.points, row.owed, marks) else {
+        return Err(0);
+    };
+    let Some(ranges) = walk::<Ranges>(e, row.ranges, row.owed, marks) else {
+        return Err(0);
+    };
     let count = points + ranges;
-    numbers_fit(e, l, i, count).then_some(count)
+    if numbers_fit(e, l, i, count) {
+        Ok(count)
+    } else {
+        Err(count)
+    }
 }

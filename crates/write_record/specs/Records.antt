@@ -19,5 +19,8 @@ abbrev pub record_cell : ℕ → ℕ → Record → Cell
 record_cell x t w = record { slot = x; kind = kind_number w.kind; span = w.lo + 65536 * w.hi; tally = w.tally; stamp = t }
 
 -- "A point … goes if i has a point of that docket or a range over it", which covers by stamp too: the cells of points that go by a record.
+abbrev pub displaces_as : ℕ → Record → Cell → Bool
+displaces_as kind w c = cond (eqb kind 3) (is_covered_by w.lo w.hi w.tally.count c) (has_docket w.lo c)
+
 abbrev pub displaces : Record → Cell → Bool
-displaces w c = cond (eqb (kind_number w.kind) 3) (is_covered_by w.lo w.hi w.tally.count c) (has_docket w.lo c)
+displaces w = displaces_as (kind_number w.kind) w

@@ -8,7 +8,7 @@ ghost use Rattle.model.specs.Steps.{Write, crowded};
 ghost use Rattle.tables.specs.Slots.{InTable};
 ghost use Rattle.chain_cells.specs.Cells.{cell_at};
 ghost use Rattle.merge_levels.specs.Laid.{Store, Stored, Laid};
-ghost use Rattle.write_record.specs.Records.{record_of, displaces};
+ghost use Rattle.write_record.specs.Records.{record_of, displaces, displaces_as};
 
 use chain_sieve::{first_doomed, has_docket, has_span, is_covered_by};
 use model::Tally;
@@ -52,8 +52,17 @@ pub fn displaces(e: &[u32], slot: usize, w: Record) -> bool
     requires { InTable e.now slot }
     ensures { result ≡ displaces w (cell_at e.now slot) }
 {
-    match w.kind {
-        Kind::Range => is_covered_by(e, slot, w.lo, w.hi, w.tally.count),
-        _ => has_docket(e, slot, w.lo),
+    displaces_as(e, slot, w.kind as u32, w)
+}
+
+// The same by a kind's number, of which any may be asked: 3 is a range delete, and any other names its first docket.
+pub fn displaces_as(e: &[u32], slot: usize, kind: u32, w: Record) -> bool
+    requires { InTable e.now slot }
+    ensures { result ≡ displaces_as kind w (cell_at e.now slot) }
+{
+    if kind == Kind::Range as u32 {
+        is_covered_by(e, slot, w.lo, w.hi, w.tally.count)
+    } else {
+        has_docket(e, slot, w.lo)
     }
 }
