@@ -78,9 +78,14 @@ module _ (e l : List ℕ) where
 
     -- Of a result of the hall's, and of the same without the price.
     module _ (a : Result (Option (put.Found Tally)) Refusal) (r : Result (Option (put.Found ℕ)) Refusal) (left : r ≡ counts_alone a) where
+      counted_less : answer_of (numbered r) ≡ without_price (answer_of (numbered a))
+      counted_less = rw left (ap answer_of (numbered_alone a) ∙ alone_without_price (numbered a))
+
       pub counted_answer : answer_of (numbered a) ≡ lookup_tables e l k → answer_of (numbered r) ≡ lookup_counts e l k
-      counted_answer is =
-          rw left (ap answer_of (numbered_alone a) ∙ alone_without_price (numbered a) ∙ ap without_price is ∙ sym counts_without_prices)
+      counted_answer is = (counted_promised is counted_less).0
+
+      pub counted_numbers : answer_of (numbered a) ≡ lookup_tables e l k → (count_numbers (answer_of (numbered r))).refusal ≡ docket_refusal e l k k
+      counted_numbers is = (counted_promised is counted_less).1
 
       pub counted_refusal : {n : ℕ} → refusal_of a ≡ n → refusal_of r ≡ n
       counted_refusal is = rw left (refused_alone a ∙ is)

@@ -27,7 +27,7 @@ module _ (e l : List ℕ) (k : ℕ) where
   look_none left level date z = rw z
 
   -- A level says d: then d, or what the levels from the next one on give.
-  look_next : (left level date : ℕ) (d : Decided) → d ≡ level_decides date (read_level e l level) k
+  pub look_next : (left level date : ℕ) (d : Decided) → d ≡ level_decides date (read_level e l level) k
       → look_from e l k (suc left) level date ≡ settle d (look_from e l k left (suc level))
   unfolding levels_as
   look_next left level date d says = rw says (lookup_decides date (read_level e l level) (read_levels e l left (suc level)) k)

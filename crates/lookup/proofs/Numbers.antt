@@ -1,5 +1,5 @@
 -- What a lookup answers by document 01's numbers: on tables of any content, exactly when it is refused and what that gives.
-use mathlib.Core.Path.{◌≡◌, refl}
+use mathlib.Core.Path.{◌≡◌, refl, ap, ◌∙◌}
 use mathlib.Core.Logic.{◌≢◌}
 use mathlib.Core.Bool.{Bool, true, false, cond}
 use mathlib.Core.List.{List}
@@ -10,7 +10,7 @@ use Rattle.model.specs.declared.Tally.{Tally}
 use Rattle.model.specs.Lookup as model
 use Rattle.tables.specs.Placed.{read_state}
 use Rattle.check_refusal.specs.Dockets.{docket_refusal}
-use Rattle.lookup.specs.Lookup.{Refused, answered, lookup_tables, numbers}
+use Rattle.lookup.specs.Lookup.{Answer, Refused, answered, lookup_tables, numbers}
 
 -- What is found or absent is not refused.
 found_unrefused : (f : model.Found Tally) → (numbers (answered f)).refusal ≡ 0
@@ -33,3 +33,7 @@ module _ (e l : List ℕ) (k : ℕ) where
       → numbers (lookup_tables e l k) ≡ record { refusal = docket_refusal e l k k; found = 0; count = 0; price = 0; stamp = 0 }
   unfolding lookup_tables
   refused_zeros some = rw (ne_eqb (docket_refusal e l k k) 0 some)
+
+  -- What a lookup promises of its answer.
+  pub promised : {r : Answer Tally} → r ≡ lookup_tables e l k → (r ≡ lookup_tables e l k) × ((numbers r).refusal ≡ docket_refusal e l k k)
+  promised is = (is, ap (λ a. (numbers a).refusal) is ∙ refused_exactly)

@@ -1,9 +1,10 @@
 -- What a lookup on the tables answers, case by case.
-use mathlib.Core.Path.{◌≡◌}
+use mathlib.Core.Path.{◌≡◌, refl}
 use mathlib.Core.List.{List}
 use Prim.Native.Nat.{ℕ, ◌≤◌}
 use native.Mathlib.Omega.{arith}
 use borrow.Author.Tests.{ne_eqb, le-ltb}
+use Rattle.std.proofs.Common.{Option, None, Some, Ok}
 use Rattle.refusals.specs.declared.Refusal.{Refusal}
 use Rattle.refusals.specs.Numbers.{number_of}
 use Rattle.refusals.proofs.Numbers.{number_nonzero}
@@ -15,7 +16,14 @@ use Rattle.tables.specs.Formed.{Formed}
 use Rattle.tables.proofs.Back.{written_reads}
 use Rattle.tables.proofs.FormedSound.{words_sound}
 use Rattle.check_refusal.specs.Dockets.{docket_refusal}
-use Rattle.lookup.specs.Lookup.{Refused, answered, lookup_tables}
+use Rattle.lookup_level.specs.declared.Found.{Found}
+use Rattle.lookup.specs.Found.{found_of}
+use Rattle.lookup.specs.Lookup.{Refused, answered, answer_of, lookup_tables}
+
+-- What is found answers as the model's does.
+pub found_answered : {A : Type 0} (found : Option (Found A)) → answer_of (Ok found) ≡ answered (found_of found)
+found_answered None = refl
+found_answered (Some f) = refl
 
 -- A refusal's number is the one that the check has found.
 module _ (e l : List ℕ) (k : ℕ) where

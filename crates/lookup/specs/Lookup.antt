@@ -1,11 +1,10 @@
 -- Document 01: "Lookup reads levels from 0", and is refused 1, 2, 3, 4 in this order.
-use Rattle.std.specs.Prelude.{cond, List, ℕ, eqb, Option, Result, Ok, Err}
+use Rattle.std.specs.Prelude.{cond, List, ℕ, eqb, Option, None, Some, Result, Ok, Err}
 use Rattle.model.specs.declared.Tally.{Tally}
 use Rattle.model.specs.Lookup as model
 use Rattle.tables.specs.Placed.{read_state}
 use Rattle.check_refusal.specs.Dockets.{docket_refusal}
 use Rattle.lookup_level.specs.declared.Found as put
-use Rattle.lookup.specs.Found.{found_of}
 
 -- What a lookup answers: the number of its refusal, or else nothing, or what is shown of the put and its stamp.
 pub data Answer (A : Type 0) : Type 0 where
@@ -20,7 +19,8 @@ answered (model.found shown stamp) = Found shown stamp
 
 -- A result with a number for its refusal, as the answer.
 abbrev pub answer_of : {A : Type 0} → Result (Option (put.Found A)) ℕ → Answer A
-answer_of (Ok found) = answered (found_of found)
+answer_of (Ok None) = Absent
+answer_of (Ok (Some f)) = Found f.shown f.stamp
 answer_of (Err refusal) = Refused refusal
 
 -- Refused 1 to 4, as a call of the dockets from k to k; else the lookup in the state that the tables read as.

@@ -10,8 +10,8 @@ ghost use Rattle.check_refusal.specs.Dockets.{docket_refusal};
 ghost use Rattle.lookup_level.specs.Answers.{level_decides};
 ghost use Rattle.lookup.specs.Found.{found_of};
 ghost use Rattle.lookup_level.specs.Readable.{Readable};
-ghost use Rattle.lookup.specs.Lookup.{answer_of, lookup_tables};
-ghost use Rattle.lookup.specs.Counts.{lookup_counts, counts_alone};
+ghost use Rattle.lookup.specs.Lookup.{answer_of, lookup_tables, numbers};
+ghost use Rattle.lookup.specs.Counts.{lookup_counts, counts_alone, count_numbers};
 
 use check_refusal::check_dockets;
 use lookup_level::{Decided, Found, look_chains};
@@ -25,6 +25,7 @@ use table_levels::{deepest_of, level_at};
 pub fn lookup(entries: &[u32], levels: &[u32], docket: u32) -> Result<Option<Found<Tally>>, Refusal>
     ensures value { answer_of (numbered result) ≡ lookup_tables entries.now levels.now docket }
     ensures result_value { refusal_of result ≡ docket_refusal entries.now levels.now docket docket }
+    ensures numbers_value { (numbers (answer_of (numbered result))).refusal ≡ docket_refusal entries.now levels.now docket docket }
 {
     check_dockets(entries, levels, docket, docket)?;
     Ok(look_up(entries, levels, docket))
@@ -38,6 +39,7 @@ pub fn lookup_count(
 ) -> Result<Option<Found<u32>>, Refusal>
     ensures value { answer_of (numbered result) ≡ lookup_counts entries.now levels.now docket }
     ensures result_value { refusal_of result ≡ docket_refusal entries.now levels.now docket docket }
+    ensures numbers_value { (count_numbers (answer_of (numbered result))).refusal ≡ docket_refusal entries.now levels.now docket docket }
 {
     without_price(lookup(entries, levels, docket))
 }
