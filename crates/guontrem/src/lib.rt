@@ -22,7 +22,7 @@ use lookup::{lookup, lookup_count, without_price};
 use make::make;
 use model::Tally;
 use refusals::{numbered, refusal_number};
-use scan::{CountRow, Row, scan};
+use scan::{CountRow, Row, scan, scan_counts};
 use wake::wake;
 
 // The number of the refusal that the tables meet, 1 to 3, or 0 where they are sound.
@@ -203,5 +203,5 @@ pub extern "C" fn guontrem_scan_counts(
     ensures value { result ≡ packed_scan (scan_counts_tables entries.now levels.now lo hi rows.old).answer }
     ensures rows_after { rows.new ≡ (scan_counts_tables entries.now levels.now lo hi rows.old).rows }
 {
-    pack_scanned(scan(entries, levels, lo, hi, rows))
+    pack_scanned(scan_counts(entries, levels, lo, hi, rows))
 }

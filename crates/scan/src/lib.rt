@@ -7,7 +7,7 @@ ghost use Rattle.model.specs.Lookup as model;
 ghost use Rattle.std.specs.Option.{option_map};
 ghost use Rattle.tables.specs.Slots.{InTable};
 ghost use Rattle.scan_step.specs.Sweeps.{live_of};
-ghost use Rattle.scan.specs.Scan.{numbers, scan_state, written};
+ghost use Rattle.scan.specs.Scan.{numbers, scan_state, scan_counts_tables, written};
 ghost use Rattle.scan.specs.Rows.{row_in, counted};
 
 use check_refusal::check_dockets;
@@ -81,8 +81,8 @@ pub struct Scanned {
     pub next: Option<u32>,
 }
 
-// Fills the rows with the live dockets from lo to hi, ascending: each row comes from a step of its own. The two tables stay two slices, as
-// C lends them.
+// Fills the rows with the live dockets from lo to hi, ascending: each row comes from a step of its own. At the hall's rows this is
+// scan_tables, which is scan_state of what a Row shows. The two tables stay two slices, as C lends them.
 pub fn scan<R: Listed>(
     entries: &[u32],
     levels: &[u32],
@@ -106,6 +106,20 @@ pub fn scan<R: Listed>(
         count: room,
         next: next_docket(m),
     })
+}
+
+// The same over the grower's rows, by the counts that the tables read as.
+#[inline(always)]
+pub fn scan_counts(
+    entries: &[u32],
+    levels: &[u32],
+    lo: u32,
+    hi: u32,
+    rows: &mut [CountRow],
+) -> Result<Scanned, Refusal>
+    ensures { record { answer = numbers result; rows = rows.new } ≡ scan_counts_tables entries.now levels.now lo hi rows.old }
+{
+    scan(entries, levels, lo, hi, rows)
 }
 
 // The docket that a scan goes on from: the one that the sweep has come to.
