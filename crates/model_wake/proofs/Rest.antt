@@ -17,7 +17,7 @@ use Rattle.model.proofs.Settle.{merge_empties, merge_other, due-empty, pass-sett
 use Rattle.model.proofs.StepView.{StepView, turned_away, refused_7, passed, step_view, accepted_outcome, worked}
 
 module _ {S A : Type 0} where
-  -- Some the last accepted clock no level from 0 to L−1 is due.
+  -- At the last accepted clock no level from 0 to L−1 is due.
   abbrev pub NoneDue : State S A → Type 0
   NoneDue s = (i : ℕ) → i < s.settings.deepest → due s.settings s.clock i (level i s) ≡ false
 
