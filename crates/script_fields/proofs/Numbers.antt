@@ -1,15 +1,28 @@
 -- The numbers that digits make, and those that are none.
-use mathlib.Core.Path.{◌≡◌}
+use mathlib.Core.Path.{◌≡◌, refl}
 use mathlib.Core.Bool.{◌&&◌, false}
-use mathlib.Core.List.{List}
-use Prim.Native.Nat.{ℕ, ◌+◌, ◌≤◌, ◌<◌}
+use mathlib.Core.List.{List, [], ◌∷◌}
+use Prim.Native.Nat.{ℕ, ◌+◌, ◌-◌, ◌*◌, ◌≤◌, ◌<◌}
+use native.Mathlib.Omega.{arith}
 use borrow.Author.Tests.{le-leb, lt-leb}
 use lib.Dec.{leb}
 use lib.ListN.{length}
 use Rattle.lists.proofs.Bools.{and_false_left, and_false_right}
 use Rattle.std.specs.Prelude.{Some, None}
-use Rattle.script_fields.specs.Numbers.{decimal, is_number}
-use Rattle.script_fields.specs.Fields.{number_of}
+use Rattle.script_fields.specs.Numbers.{digits, decimal, is_number}
+use Rattle.script_fields.specs.Fields.{starts_digit, number_of}
+
+-- More digits make no number less.
+pub decimal_grows : (n : ℕ) (ds : List ℕ) → n ≤ decimal n ds
+unfolding decimal
+decimal_grows n [] = omega arith
+decimal_grows n (d ∷ ds) = omega (arith, decimal_grows (10 * n + (d - 48)) ds)
+
+-- Where no digit stands, no digits are read.
+pub no_more : (bytes : List ℕ) → starts_digit bytes ≡ false → digits bytes ≡ []
+unfolding digits
+no_more [] h = refl
+no_more (byte ∷ rest) h = rw h
 
 module _ (start : ℕ) (ds : List ℕ) where
   pub no_digits : length ds < 1 → number_of start ds ≡ None

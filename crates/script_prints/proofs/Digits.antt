@@ -61,6 +61,23 @@ pub length-printed : (printed : Printed) → length (numbers_text (numbers_of pr
 length-printed (Three first second third) = omega (arith, length-numbers (numbers_of (Three first second third)))
 length-printed (Four first second third fourth) = length-numbers (numbers_of (Four first second third fourth))
 
+-- As many digits as there are make the number whole.
+pub digits_exact : (most n : ℕ) → digits_within (length (digits_within most n)) n ≡ digits_within most n
+unfolding digits_within
+digits_exact zero n = refl
+digits_exact (suc most) n =
+    by_ten n
+    (λ s. rw (length_one most n s, one_digit most n s) (one_digit 0 n s))
+    (λ l.
+    let before = digits_within most (n / 10) in
+    rw (length_more most n l, more_digits most n l, more_digits (length before) n l) (ap (λ ds. ds ++ last_digit n) (digits_exact most (n / 10))))
+
+-- Of as many digits as a number has, the last stands after those of the tenth part.
+pub last_of_exact : (left n : ℕ) → length (digits_within (suc left) n) ≡ suc left → digits_within (suc left) n ≡ digits_within left (n / 10) ++ last_digit n
+unfolding digits_within
+last_of_exact zero n exact = by_ten n (λ s. one_digit 0 n s) (λ l. more_digits 0 n l)
+last_of_exact (suc left) n exact = by_ten n (λ s. absurd (omega (arith, length_one (suc left) n s))) (λ l. more_digits (suc left) n l)
+
 -- A number has at most so many digits: so many divisions by ten leave nothing.
 abbrev pub Within : ℕ → ℕ → Type 0
 Within zero n = n ≡ 0
