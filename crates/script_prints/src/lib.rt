@@ -4,6 +4,9 @@
 ghost use Rattle.std.specs.Prelude.{◌≡◌, ◌+◌, ◌*◌, ◌≤◌, length};
 ghost use Rattle.script_prints.specs.Texts.{decimal_text, field_text, numbers_of, numbers_text, overwrite};
 
+// The least number of two digits.
+const TWO_DIGITS: u32 = 10;
+
 // The numbers that a line prints.
 #[derive(Clone, Copy)]
 pub enum Printed {
@@ -58,7 +61,7 @@ fn print_digits(out: &mut [u8], at: usize, number: u32) -> usize
     ensures value { result ≡ at + length (decimal_text number) }
     ensures out_after { out.new ≡ overwrite out.old at (decimal_text number) }
 {
-    let last = if 10 <= number {
+    let last = if TWO_DIGITS <= number {
         print_digits(out, at, number / 10)
     } else {
         at
