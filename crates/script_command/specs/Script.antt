@@ -7,7 +7,7 @@ use Rattle.script_lines.specs.declared.Command.TheVariants.{Make, Put, Delete, D
 use Rattle.script_store.specs.Memory.{Memory, Stepped, answers_alone, makes, does, finds}
 
 abbrev pub is_make : Command → Bool
-is_make (Make n s) = true
+is_make (Make n l t b d) = true
 is_make (Put t k v p) = false
 is_make (Delete t k) = false
 is_make (DeleteRange t lo hi) = false
@@ -18,7 +18,7 @@ is_make (Lookup k) = false
 
 -- Request S-1: "a range delete without a date has its own clock as s"; request S-2: "`P` lines take the price last".
 abbrev pub carried_out : Command → Memory → Stepped
-carried_out (Make n s) m = makes n s m
+carried_out (Make n l t b d) m = makes n (record { deepest = l; ratio = t; buffer = b; term = d }) m
 carried_out (Put t k v p) m = does (record { clock = t; op = written (put k (record { count = v; price = p })) }) m
 carried_out (Delete t k) m = does (record { clock = t; op = written (delete k) }) m
 carried_out (DeleteRange t lo hi) m = does (record { clock = t; op = written (delete_range lo hi t) }) m

@@ -31,7 +31,13 @@ fn run_command(command: Command, store: &mut Store) -> Printed
         return alone(Refusal::Line.number());
     }
     match command {
-        Command::Make { slots, settings } => store.run_make(slots, settings),
+        Command::Make {
+            slots,
+            deepest,
+            ratio,
+            buffer,
+            term,
+        } => store.run_make(slots, deepest, ratio, buffer, term),
         Command::Put {
             clock,
             key,

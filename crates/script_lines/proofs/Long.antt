@@ -11,9 +11,9 @@ use lib.ListN.{length, drop, length-drop}
 use Rattle.lists.proofs.Bools.{and_left, and_right, cond_elim}
 use Rattle.std.specs.Prelude.{Option, None}
 use Rattle.script_lines.specs.declared.Command.{Command}
-use Rattle.script_lines.specs.declared.Command.TheVariants.{Put, Delete, DeleteRange, DeleteRangeDated, Flush, Tick, Lookup}
+use Rattle.script_lines.specs.declared.Command.TheVariants.{Make, Put, Delete, DeleteRange, DeleteRangeDated, Flush, Tick, Lookup}
 use Rattle.script_fields.specs.Numbers.{digits, decimal, is_number}
-use Rattle.script_lines.specs.Lines.{Taking, make_of, fields, line_of}
+use Rattle.script_lines.specs.Lines.{Taking, fields, line_of}
 
 abbrev NoForm : Option Command → Type 0
 NoForm line = line ≡ None
@@ -39,7 +39,7 @@ pub long_unreadable : (text : List ℕ) → 56 < length text → line_of text �
 unfolding line_of
 long_unreadable [] long = refl
 long_unreadable (letter ∷ rest) long =
-    let make : NoForm (fields 5 make_of rest) = long_fields 5 make_of rest (omega (arith, long)) in
+    let make : NoForm (fields 5 Make rest) = long_fields 5 Make rest (omega (arith, long)) in
     let put : NoForm (fields 4 Put rest) = long_fields 4 Put rest (omega (arith, long)) in
     let delete : NoForm (fields 2 Delete rest) = long_fields 2 Delete rest (omega (arith, long)) in
     let delete_range : NoForm (fields 3 DeleteRange rest) = long_fields 3 DeleteRange rest (omega (arith, long)) in

@@ -4,8 +4,8 @@ use Prim.Native.Char.{code}
 use Prim.Native.String as string
 use Rattle.std.specs.Prelude.{Option, Some, None}
 use Rattle.script_lines.specs.declared.Command.{Command}
-use Rattle.script_lines.specs.declared.Command.TheVariants.{Put, Delete, DeleteRange, DeleteRangeDated, Flush, Tick, Lookup}
-use Rattle.script_lines.specs.Lines.{make_of, line_of}
+use Rattle.script_lines.specs.declared.Command.TheVariants.{Make, Put, Delete, DeleteRange, DeleteRangeDated, Flush, Tick, Lookup}
+use Rattle.script_lines.specs.Lines.{line_of}
 
 -- The bytes of a text in ASCII.
 unfoldable pub bytes : string.String → List ℕ
@@ -18,7 +18,7 @@ says text line = line_of (bytes text) ≡ line
 pub record FormTable : Type 0 where
   -- "`M N L T B D` makes, `P t k v` puts, `D t k` deletes, `R t lo hi`, `F t` flushes, `T t` ticks, `G k` looks up";
   -- request S-2: "`P` lines take the price last"
-  pub make : says "M 6 3 2 2 9" (Some (make_of 6 3 2 2 9))
+  pub make : says "M 6 3 2 2 9" (Some (Make 6 3 2 2 9))
   pub put : says "P 1 7 70 5" (Some (Put 1 7 70 5))
   pub delete : says "D 2 7" (Some (Delete 2 7))
   pub delete_range : says "R 3 5 65535" (Some (DeleteRange 3 5 65535))

@@ -10,10 +10,6 @@ abbrev pub Taking : ℕ → Type 0
 Taking zero = Command
 Taking (suc n) = ℕ → Taking n
 
--- N, then L, T, B, D.
-abbrev pub make_of : Taking 5
-make_of n l t b d = Make n (record { deepest = l; ratio = t; buffer = b; term = d })
-
 -- "one blank between fields": n numbers, each after one blank, and nothing after the last.
 unfoldable pub fields : (n : ℕ) → Taking n → List ℕ → Option Command
 fields zero command [] = Some command
@@ -28,7 +24,7 @@ fields (suc n) command (byte ∷ rest) =
 unfoldable pub line_of : List ℕ → Option Command
 line_of [] = None
 line_of (letter ∷ rest) =
-    cond (eqb letter (code "M")) (fields 5 make_of rest)
+    cond (eqb letter (code "M")) (fields 5 Make rest)
     (cond (eqb letter (code "P")) (fields 4 Put rest)
     (cond (eqb letter (code "D")) (fields 2 Delete rest)
     (cond (eqb letter (code "R")) (fields 3 DeleteRange rest)

@@ -5,14 +5,16 @@ ghost use Rattle.std.specs.Prelude.{◌≡◌};
 ghost use Rattle.script_lines.specs.Lines.{line_of};
 
 use script_fields::read_fields;
-use settings::Settings;
 
 // What a line asks for; `lo` and `hi` are the first key and the last.
 #[derive(Clone, Copy)]
 pub enum Command {
     Make {
         slots: u32,
-        settings: Settings,
+        deepest: u32,
+        ratio: u32,
+        buffer: u32,
+        term: u32,
     },
     Put {
         clock: u32,
@@ -56,12 +58,10 @@ pub fn read_line(text: &[u8]) -> Option<Command>
             let [slots, deepest, ratio, buffer, term] = read_fields::<5>(text, 1)?;
             Some(Command::Make {
                 slots,
-                settings: Settings {
-                    deepest,
-                    ratio,
-                    buffer,
-                    term,
-                },
+                deepest,
+                ratio,
+                buffer,
+                term,
             })
         }
         // `P t k v p`

@@ -18,7 +18,6 @@ use make::make;
 use model::Tally;
 use refusals::Refusal;
 use script_prints::Printed;
-use settings::Settings;
 use table_levels::level_length;
 use table_slots::entry_length;
 
@@ -74,17 +73,33 @@ impl Store {
     }
 
     // Makes the store anew; a refused making leaves the store there was.
-    pub fn run_make(&mut self, slots: u32, settings: Settings) -> Printed
-        ensures { stepped_to self.new result ≡ makes slots settings (memory_of self.old) }
+    pub fn run_make(
+        &mut self,
+        slots: u32,
+        deepest: u32,
+        ratio: u32,
+        buffer: u32,
+        term: u32,
+    ) -> Printed
+        ensures { stepped_to self.new result ≡
+            makes slots (record { deepest = deepest; ratio = ratio; buffer = buffer; term = term }) (memory_of self.old) }
     {
         if MOST_SLOTS < slots {
             return alone(Refusal::Line.number());
         }
-        match make_in(&mut self.entries, &mut self.levels, slots, settings) {
+        match make_in(
+            &mut self.entries,
+            &mut self.levels,
+            slots,
+            deepest,
+            ratio,
+            buffer,
+            term,
+        ) {
             Ok(()) => {
                 self.size = Size {
                     slots: slots as usize,
-                    deepest: settings.deepest as usize,
+                    deepest: deepest as usize,
                 };
                 alone(0)
             }
@@ -115,24 +130,23 @@ fn make_in(
     entries: &mut [u32],
     levels: &mut [u32],
     slots: u32,
-    settings: Settings,
+    deepest: u32,
+    ratio: u32,
+    buffer: u32,
+    term: u32,
 ) -> Result<(), Refusal>
     requires room { Room entries.old levels.old }
     requires few { slots ≤ 3275 }
     ensures refused { refusal_of result ≢ 0 → (n d : ℕ) →
-        answers_alone (refusal_of result) (memory entries.new levels.new n d) ≡ makes slots settings (memory entries.old levels.old n d) }
+        answers_alone (refusal_of result) (memory entries.new levels.new n d) ≡
+        makes slots (record { deepest = deepest; ratio = ratio; buffer = buffer; term = term }) (memory entries.old levels.old n d) }
     ensures accepted { refusal_of result ≡ 0 → (n d : ℕ) →
-        answers_alone 0 (memory entries.new levels.new slots settings.deepest) ≡ makes slots settings (memory entries.old levels.old n d) }
-    ensures shallow { refusal_of result ≡ 0 → settings.deepest ≤ 6 }
+        answers_alone 0 (memory entries.new levels.new slots deepest) ≡
+        makes slots (record { deepest = deepest; ratio = ratio; buffer = buffer; term = term }) (memory entries.old levels.old n d) }
+    ensures shallow { refusal_of result ≡ 0 → deepest ≤ 6 }
 {
     let words = entry_length(slots as usize);
-    let rows = level_room(settings.deepest);
-    let Settings {
-        deepest,
-        ratio,
-        buffer,
-        term,
-    } = settings;
+    let rows = level_room(deepest);
     make(
         &mut entries[..words],
         &mut levels[..rows],
@@ -168,7 +182,7 @@ pub fn alone(first: u32) -> Printed
 }
 
 // What a timed call answers.
-fn counted(answer: Result<Answer, Refusal>) -> Printed
+pub fn counted(answer: Result<Answer, Refusal>) -> Printed
     ensures { result ≡ counting answer }
 {
     match answer {

@@ -1,7 +1,7 @@
 -- `script_lines::read_line`: a line is its first byte and the rest, and each letter has the form of so many numbers.
 use Rattle.std.proofs.Common.{◌∙◌, refl, rules}
-use Rattle.script_lines.specs.declared.Command.TheVariants.{Put, Delete, DeleteRange, DeleteRangeDated, Flush, Tick, Lookup}
-use Rattle.script_lines.specs.Lines.{make_of, line_of}
+use Rattle.script_lines.specs.declared.Command.TheVariants.{Make, Put, Delete, DeleteRange, DeleteRangeDated, Flush, Tick, Lookup}
+use Rattle.script_lines.specs.Lines.{line_of}
 use Rattle.script_lines.proofs.Forms.{all_read, none_read, empty, lettered, no_letter}
 use Rattle.script_lines.proofs.read_line.Goals as goal
 
@@ -11,13 +11,13 @@ returns-in_err-first c = c.from_residual.ensures ∙ empty c.args.text.now c.in_
 pub returns-in_err-slots-in-77 : goal.returns-in_err-slots-in-77
 unfolding line_of
 returns-in_err-slots-in-77 c =
-    c.from_residual-in_err-slots-in-77.ensures ∙ none_read 5 make_of _ c.in_err-slots-in-77.ensures
+    c.from_residual-in_err-slots-in-77.ensures ∙ none_read 5 Make _ c.in_err-slots-in-77.ensures
     ∙ lettered c.args.text.now c.in_ok-first.ensures.value c.in-77.is
 
 pub returns-in_ok-slots-in-77 : goal.returns-in_ok-slots-in-77
 unfolding line_of
 returns-in_ok-slots-in-77 c =
-    all_read 5 make_of _ c.in_ok-slots-in-77.ensures ∙ lettered c.args.text.now c.in_ok-first.ensures.value c.in-77.is
+    all_read 5 Make _ c.in_ok-slots-in-77.ensures ∙ lettered c.args.text.now c.in_ok-first.ensures.value c.in-77.is
 
 pub returns-in_err-clock-in-80 : goal.returns-in_err-clock-in-80
 unfolding line_of
