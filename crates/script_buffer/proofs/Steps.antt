@@ -54,6 +54,12 @@ module _ (e l line output : List ℕ) (m : Progress) where
       let shown = waits output output' (numbers_text (numbers_of answer)) m.waiting waiting (omega (arith, few)) printed in
       rw (shown.0, shown.1, ← told, take-append-drop m.length line)
 
+  -- Room of the same bytes, of which none is kept.
+  pub emptied : {line' : List ℕ} {count : ℕ} → line' ≡ line → count ≡ 0
+      → standing e l line' output (record { slots = m.slots; deepest = m.deepest; length = count; waiting = m.waiting })
+      ≡ standing e l line output (record { slots = m.slots; deepest = m.deepest; length = 0; waiting = m.waiting })
+  emptied same none = rw (same, none) refl
+
   -- Another byte is kept.
   pub takes_byte : (byte count : ℕ) (line' : List ℕ) → (byte ≡ 10 → ⊥) → take count line' ≡ kept (take m.length line) byte → drop count line' ≡ drop 1 (drop m.length line)
       → standing e l line' output (record { slots = m.slots; deepest = m.deepest; length = count; waiting = m.waiting }) ≡ taken byte (standing e l line output m)

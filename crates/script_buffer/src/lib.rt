@@ -1,7 +1,7 @@
 // A line of the script as its bytes come in, and its end: the line is carried out, and what it prints waits to be written out.
 #![tactic(auto)]
 
-ghost use Rattle.std.specs.Prelude.{◌≡◌, ◌+◌, ◌≤◌};
+ghost use Rattle.std.specs.Prelude.{◌≡◌, ◌+◌, ◌≤◌, replicate};
 ghost use Rattle.script_store.specs.Stores.{memory_of};
 ghost use Rattle.script_command.specs.Cases.{no_store};
 ghost use Rattle.script_buffer.specs.Bytes.{taken, ended};
@@ -25,11 +25,13 @@ pub struct Script<const ROOM: usize> {
 }
 
 impl<const ROOM: usize> Script<ROOM> {
-    // No store, no bytes of a line, and none that wait.
+    // No store, no bytes of a line, and none that wait, in room of zeros.
     pub fn new() -> Self
         ensures memory { memory_of result.store ≡ no_store }
         ensures no_line { result.line.count ≡ 0 }
         ensures none_waits { result.output.count ≡ 0 }
+        ensures line_zeros { result.line.bytes ≡ replicate 64 0 }
+        ensures output_zeros { result.output.bytes ≡ replicate ROOM 0 }
     {
         Script {
             store: Store::new(),
