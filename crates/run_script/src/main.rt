@@ -43,7 +43,7 @@ fn serve<R: Read, W: Write>(
     input: &mut [u8],
 )
     requires none_waits { script.old.output.count ≡ 0 }
-    requires input_room { length input.old ≤ 8192 }
+    requires input_room { length input.old ≡ 8192 }
     ensures { Run (standing_of script.old) (standing_of script.new) }
 {
     for _ in 0..u64::MAX {
@@ -63,7 +63,7 @@ fn serve_block<R: Read, W: Write>(
     input: &mut [u8],
 ) -> bool
     requires none_waits { script.old.output.count ≡ 0 }
-    requires input_room { length input.old ≤ 8192 }
+    requires input_room { length input.old ≡ 8192 }
     ensures none_waits { script.new.output.count ≡ 0 }
     ensures turn { Turn input.new (standing_of script.old) (standing_of script.new) result }
 {
