@@ -32,6 +32,22 @@ digits_first [] = refl
 digits_first (byte ∷ rest) =
     by_cases (is_digit byte) (λ is. rw is (ap (λ ds. byte ∷ ds) (digits_first rest))) (λ is. rw is refl)
 
+-- Fewer digits than the bytes that are looked at are all that there are.
+pub digits_near : (k : ℕ) (bytes : List ℕ) → length (digits (take k bytes)) < k → digits (take k bytes) ≡ digits bytes
+unfolding digits
+digits_near zero bytes few = absurd (omega arith)
+digits_near (suc k) [] few = refl
+digits_near (suc k) (byte ∷ rest) few =
+    by_cases (is_digit byte) (λ is. rw is (ap (λ ds. byte ∷ ds) (digits_near k rest (omega (arith, rw is at few))))) (λ is. rw is refl)
+
+-- Among the first bytes stand no more digits than among all.
+pub digits_within : (k : ℕ) (bytes : List ℕ) → length (digits (take k bytes)) ≤ length (digits bytes)
+unfolding digits
+digits_within zero bytes = omega arith
+digits_within (suc k) [] = omega arith
+digits_within (suc k) (byte ∷ rest) =
+    by_cases (is_digit byte) (λ is. rw is (omega (arith, digits_within k rest))) (λ is. rw is (omega arith))
+
 head_digit : (byte : ℕ) (rest : List ℕ) → digits (byte ∷ rest) ≡ byte ∷ rest → (is_digit byte ≡ true) × (digits rest ≡ rest)
 unfolding digits
 head_digit byte rest all =

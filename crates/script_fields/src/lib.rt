@@ -1,12 +1,15 @@
 // Reads the fields of a line: numbers, each after one blank. A position is handed on beside the line, since an answer tells where its field ends.
 #![tactic(auto)]
 
-ghost use Rattle.std.specs.Prelude.{◌≡◌, ◌≤◌, length, drop};
+ghost use Rattle.std.specs.Prelude.{◌≡◌, ◌≤◌, length, take, drop};
 ghost use Rattle.script_fields.specs.Numbers.{digits, decimal};
 ghost use Rattle.script_fields.specs.Fields.{number_of, field_of, numbers_of};
 
 // The most digits that a number is written in.
 const MOST_DIGITS: usize = 10;
+
+// Of how many bytes the digits are counted: one more than a number has, so that a text of any length is read no farther.
+const ENOUGH: usize = 11;
 
 // What is read at a position: a number and the position after it.
 #[derive(Clone, Copy)]
@@ -45,16 +48,24 @@ fn read_number(text: &[u8], start: usize) -> Option<Field>
     ensures { result ≡ number_of start (digits (drop start text.now)) }
 {
     let rest = text.get(start..)?;
-    let count = count_digits(rest);
+    let near = nearest(rest);
+    let count = count_digits(near);
     if count == 0 || MOST_DIGITS < count {
         return None;
     }
-    let value = value_of(&rest[..count]);
+    let value = value_of(&near[..count]);
     let number = u32::try_from(value).ok()?;
     Some(Field {
         number,
         end: start + count,
     })
+}
+
+// The first bytes, enough to tell a number from more digits than it has.
+fn nearest(bytes: &[u8]) -> &[u8]
+    ensures { result.now ≡ take 11 bytes.now }
+{
+    bytes.get(..ENOUGH).unwrap_or(bytes)
 }
 
 // How many digits the bytes begin with.
