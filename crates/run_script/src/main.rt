@@ -34,7 +34,7 @@ fn main(rt: HostRuntime) {
 }
 
 // Reads blocks until the input ends or the output is closed. A proved loop has to end: it has more turns than a run uses up.
-// That no byte waits is a clause: a type for it would be a `Script` once more.
+// It begins with no store, no byte of a line and none that waits. That is said in clauses: a type for it would be a `Script` once more.
 fn serve<R: Read, W: Write>(
     rt: &(impl Clock + Eprint),
     reader: &mut R,
@@ -42,6 +42,9 @@ fn serve<R: Read, W: Write>(
     script: &mut Script<OUTPUT_ROOM>,
     input: &mut [u8],
 )
+    requires no_slots { script.old.store.size.slots ≡ 0 }
+    requires no_levels { script.old.store.size.deepest ≡ 0 }
+    requires no_line { script.old.line.count ≡ 0 }
     requires none_waits { script.old.output.count ≡ 0 }
     requires input_room { length input.old ≡ 8192 }
     ensures { Run (standing_of script.old) (standing_of script.new) }
