@@ -1,6 +1,8 @@
 -- The code's memory and progress as the definitions'.
 use Rattle.std.specs.Prelude.{List, ℕ, take, drop}
 use Rattle.script_store.specs.Coded.{memory}
+use Rattle.script_store.specs.declared.Store.{Store}
+use Rattle.script_buffer.specs.declared.buffer.Buffer.{Buffer}
 use Rattle.script_buffer.specs.declared.Script.{Script}
 use Rattle.script_buffer.specs.Bytes.{Standing}
 
@@ -20,8 +22,16 @@ standing e l line output m = record {
   output_rest = drop m.waiting output;
 }
 
+-- A store and a line, with an output of any length in which so many bytes wait.
+abbrev pub progress_in : {kept : ℕ} → Store → Buffer kept → ℕ → Progress
+progress_in store line waiting = record { slots = store.size.slots; deepest = store.size.deepest; length = line.count; waiting = waiting }
+
+abbrev pub standing_in : {kept : ℕ} → Store → Buffer kept → List ℕ → ℕ → Standing
+standing_in store line output waiting = standing store.entries store.levels line.bytes output (progress_in store line waiting)
+
+-- A script's own.
 abbrev pub progress_of : {room : ℕ} → Script room → Progress
-progress_of s = record { slots = s.store.size.slots; deepest = s.store.size.deepest; length = s.line.count; waiting = s.output.count }
+progress_of s = progress_in s.store s.line s.output.count
 
 abbrev pub standing_of : {room : ℕ} → Script room → Standing
-standing_of s = standing s.store.entries s.store.levels s.line.bytes s.output.bytes (progress_of s)
+standing_of s = standing_in s.store s.line s.output.bytes s.output.count

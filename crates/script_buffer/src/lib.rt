@@ -1,20 +1,21 @@
 // A line of the script as its bytes come in, and its end: the line is carried out, and what it prints waits to be written out.
 #![tactic(auto)]
 
-ghost use Rattle.std.specs.Prelude.{◌≡◌, ◌+◌, ◌≤◌, replicate};
+ghost use Rattle.std.specs.Prelude.{◌≡◌, ◌+◌, ◌≤◌, length, replicate};
 ghost use Rattle.script_store.specs.Stores.{memory_of};
 ghost use Rattle.script_command.specs.Cases.{no_store};
 ghost use Rattle.script_buffer.specs.Bytes.{taken, ended};
-ghost use Rattle.script_buffer.specs.Room.{standing_of};
+ghost use Rattle.script_buffer.specs.Room.{standing_in, standing_of};
 
 mod buffer;
 
 pub use buffer::Buffer;
 use script_command::run_line;
+use script_prints::print_numbers;
 use script_store::Store;
 
 // How many bytes of a line are kept: a longer one has no form, whatever its other bytes are.
-const LINE_ROOM: usize = 64;
+pub const LINE_ROOM: usize = 64;
 
 // Where a script stands: its store, the bytes of a line that are kept, and the printed bytes that wait to be written out.
 #[derive(Drop)]
@@ -46,11 +47,13 @@ impl<const ROOM: usize> Script<ROOM> {
         ensures result_after { standing_of self.new ≡ taken byte (standing_of self.old) }
         ensures waiting_bound { self.new.output.count ≤ self.old.output.count + 44 }
     {
-        if byte == b'\n' {
-            self.end_line();
-        } else {
-            self.line.keep(byte);
-        }
+        self.output.count = take_byte_into(
+            byte,
+            &mut self.store,
+            &mut self.line,
+            &mut self.output.bytes,
+            self.output.count,
+        );
     }
 
     // Ends the line: it is carried out, and what it prints waits after what was printed before.
@@ -59,8 +62,46 @@ impl<const ROOM: usize> Script<ROOM> {
         ensures result_after { standing_of self.new ≡ ended (standing_of self.old) }
         ensures waiting_bound { self.new.output.count ≤ self.old.output.count + 44 }
     {
-        let printed = run_line(self.line.as_slice(), &mut self.store);
-        self.output.print(printed);
-        self.line.clear();
+        self.output.count = end_line_into(
+            &mut self.store,
+            &mut self.line,
+            &mut self.output.bytes,
+            self.output.count,
+        );
     }
+}
+
+// Takes in one byte where the output is lent, of any length, and so many printed bytes wait in it. Answers how many wait then.
+pub fn take_byte_into(
+    byte: u8,
+    store: &mut Store,
+    line: &mut Buffer<LINE_ROOM>,
+    output: &mut [u8],
+    waiting: usize,
+) -> usize
+    requires { waiting + 44 ≤ length output.old }
+    ensures result_after { standing_in store.new line.new output.new result ≡ taken byte (standing_in store.old line.old output.old waiting) }
+    ensures waiting_bound { result ≤ waiting + 44 }
+{
+    if byte == b'\n' {
+        return end_line_into(store, line, output, waiting);
+    }
+    line.keep(byte);
+    waiting
+}
+
+// Ends the line where the output is lent. Answers how many printed bytes wait in it then.
+pub fn end_line_into(
+    store: &mut Store,
+    line: &mut Buffer<LINE_ROOM>,
+    output: &mut [u8],
+    waiting: usize,
+) -> usize
+    requires { waiting + 44 ≤ length output.old }
+    ensures result_after { standing_in store.new line.new output.new result ≡ ended (standing_in store.old line.old output.old waiting) }
+    ensures waiting_bound { result ≤ waiting + 44 }
+{
+    let printed = run_line(line.as_slice(), store);
+    line.clear();
+    print_numbers(output, waiting, printed)
 }
