@@ -12,5 +12,5 @@ pub returns-clause-result_after : goal.returns-clause-result_after
 returns-clause-result_after c =
     let a = c.args in
     let store = a.store.now in
-    takes_byte store.entries store.levels a.line.now.bytes a.output.now (progress_in store a.line.now a.waiting) a.byte c.keep.new.self.count c.keep.new.self.bytes
-    c.if-byte-eq10.false c.keep.ensures.kept c.keep.ensures.rest
+    takes_byte store.entries store.levels a.line.now.bytes a.output.now (progress_in store a.line.now a.waiting) a.byte
+    c.keep.new.self.count c.keep.new.self.bytes c.if-byte-eq10.false c.keep.ensures.kept c.keep.ensures.rest
