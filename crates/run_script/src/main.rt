@@ -47,6 +47,7 @@ fn serve<R: Read, W: Write>(
     requires no_line { script.old.line.count ≡ 0 }
     requires none_waits { script.old.output.count ≡ 0 }
     requires input_room { length input.old ≡ 8192 }
+    requires output_room { length script.old.output.bytes ≡ 360448 }
     ensures { Run (standing_of script.old) (standing_of script.new) }
 {
     for _ in 0..u64::MAX {
