@@ -36,10 +36,11 @@ module _ (e l : List ℕ) (k : ℕ) where
   abbrev pub look_on : ℕ → ℕ → model.Found Tally
   look_on level date = look_from e l k ((settings_of l).deepest + 1 - level) level date
 
-  -- A level has said d, which is w, and so settles what all levels give, or leaves it to the next ones.
-  pub look_turn : (level date next : ℕ) (all : model.Found Tally) (d w : Decided) → level ≤ (settings_of l).deepest → next ≡ suc level
-      → look_on level date ≡ all → d ≡ level_decides date (read_level e l level) k → d ≡ w → settle w (look_on next) ≡ all
-  look_turn level date next all d w inside follows so_far says is =
+  -- The level read is this one and has said d, which is w: it settles what all levels give, or leaves it to the next ones.
+  pub look_turn : (level date next : ℕ) (all : model.Found Tally) (d w : Decided) {at : ℕ} → level ≤ (settings_of l).deepest → next ≡ suc level
+      → look_on level date ≡ all → d ≡ level_decides date (read_level e l at) k → at ≡ level → d ≡ w → settle w (look_on next) ≡ all
+  look_turn level date next all d w inside follows so_far read this is =
+      let says : d ≡ level_decides date (read_level e l level) k = rw this at read in
       let more : (settings_of l).deepest + 1 - level ≡ suc ((settings_of l).deepest + 1 - suc level) = omega arith in
       let leads : look_on level date ≡ settle d (look_on (suc level)) = rw more (look_next ((settings_of l).deepest + 1 - suc level) level date d says) in
       rw (← is, follows) (sym leads ∙ so_far)

@@ -112,10 +112,10 @@ module _ (g : Store) (e l : List ℕ) (laid : Laid g e l) (i : ℕ) (deep : i < 
   next_deepest d is = ap (eqb (i + 1)) (is ∙ laid_deepest g e l laid) ∙ ap (λ k. eqb k g.state.settings.deepest) (omega arith)
 
   -- So the code's join is that of the two.
-  pub pair_joined : (upper lower : Level) → upper ≡ level_at l i → lower ≡ level_at l (i + 1) → (d : ℕ) → d ≡ (settings_of l).deepest
-      → (e' : List ℕ) (r : Level) → ((h : Levels) → LevelsHeld h e upper lower → Joined (eqb (i + 1) d) h e' r)
+  pub pair_joined : (upper lower : Level) → upper ≡ level_at l i → lower ≡ level_at l (i + 1) → (d : ℕ) → d ≡ (settings_of l).deepest → {last : Bool} → last ≡ eqb (i + 1) d
+      → (e' : List ℕ) (r : Level) → ((h : Levels) → LevelsHeld h e upper lower → Joined last h e' r)
       → Joined (eqb (suc i) g.state.settings.deepest) (pair g i) e' r
-  pair_joined upper lower u w d is e' r joins = rw (next_deepest d is) at (joins (pair g i) (pair_held upper lower u w))
+  pair_joined upper lower u w d is here e' r joins = rw (here, next_deepest d is) at (joins (pair g i) (pair_held upper lower u w))
 
   merged_formed : Formed g.slots (timed g.time (merge_state i g.state))
   unfolding merge_state

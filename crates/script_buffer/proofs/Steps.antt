@@ -43,15 +43,15 @@ unfolding taken
 takes_end byte s s' is ends = rw (eq-eqb byte 10 is) ends
 
 module _ (e l line output : List ℕ) (m : Progress) where
-  -- A line carried out and its answer printed.
-  pub ends : (e' l' output' : List ℕ) (slots deepest : ℕ) (printed : Answer) (waiting : ℕ) → m.waiting + 44 ≤ length output
+  -- A line carried out and its answer printed, after what waited.
+  pub ends : (e' l' output' : List ℕ) (slots deepest : ℕ) (printed : Answer) (waiting : ℕ) {at : ℕ} → at ≡ m.waiting → m.waiting + 44 ≤ length output
       → record { memory = memory e' l' slots deepest; printed = numbers_of printed } ≡ line_step (line_of (take m.length line)) (memory e l m.slots m.deepest)
-      → Printed output m.waiting (numbers_text (numbers_of printed)) waiting output'
+      → Printed output at (numbers_text (numbers_of printed)) waiting output'
       → standing e' l' line output' (record { slots = slots; deepest = deepest; length = 0; waiting = waiting }) ≡ ended (standing e l line output m)
   unfolding ended
-  ends e' l' output' slots deepest answer waiting room told printed =
+  ends e' l' output' slots deepest answer waiting after room told printed =
       let few = length-printed answer in
-      let shown = waits output output' (numbers_text (numbers_of answer)) m.waiting waiting (omega (arith, few)) printed in
+      let shown = waits output output' (numbers_text (numbers_of answer)) m.waiting waiting (omega (arith, few)) (rw after at printed) in
       rw (shown.0, shown.1, ← told, take-append-drop m.length line)
 
   -- Room of the same bytes, of which none is kept.
@@ -61,7 +61,7 @@ module _ (e l line output : List ℕ) (m : Progress) where
   emptied same none = rw (same, none) refl
 
   -- Another byte is kept.
-  pub takes_byte : (byte count : ℕ) (line' : List ℕ) → (byte ≡ 10 → ⊥) → take count line' ≡ kept (take m.length line) byte → drop count line' ≡ drop 1 (drop m.length line)
+  pub takes_byte : (byte count : ℕ) (line' : List ℕ) {it : ℕ} → it ≡ byte → (byte ≡ 10 → ⊥) → take count line' ≡ kept (take m.length line) it → drop count line' ≡ drop 1 (drop m.length line)
       → standing e l line' output (record { slots = m.slots; deepest = m.deepest; length = count; waiting = m.waiting }) ≡ taken byte (standing e l line output m)
   unfolding taken
-  takes_byte byte count line' other keeps left = rw (ne_eqb byte 10 other, keeps, left)
+  takes_byte byte count line' is other keeps left = rw (ne_eqb byte 10 other, keeps, left, is)

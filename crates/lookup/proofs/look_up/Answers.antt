@@ -13,19 +13,19 @@ pub returns-in-Value : goal.returns-in-Value
 returns-in-Value c =
     let a = c.args in
     let w = c.loop-level in
-    look_turn a.e.now a.l.now a.docket w.level w.date _ _ _ _ (omega arith) refl w.invariant.1 c.look_level.ensures c.in-Value.is
+    look_turn a.e.now a.l.now a.docket w.level w.date _ _ _ _ (omega arith) refl w.invariant.1 c.look_level.ensures (omega arith) c.in-Value.is
 
 pub returns-in-Absent : goal.returns-in-Absent
 returns-in-Absent c =
     let a = c.args in
     let w = c.loop-level in
-    look_turn a.e.now a.l.now a.docket w.level w.date _ _ _ _ (omega arith) refl w.invariant.1 c.look_level.ensures c.in-Absent.is
+    look_turn a.e.now a.l.now a.docket w.level w.date _ _ _ _ (omega arith) refl w.invariant.1 c.look_level.ensures (omega arith) c.in-Absent.is
 
 pub loop-level-preserved : goal.loop-level-preserved
 loop-level-preserved c =
     let a = c.args in
     let w = c.loop-level in
-    (w.invariant.0, look_turn a.e.now a.l.now a.docket w.level w.date _ _ _ _ (omega arith) (omega arith) w.invariant.1 c.look_level.ensures c.in-Deeper.is)
+    (w.invariant.0, look_turn a.e.now a.l.now a.docket w.level w.date _ _ _ _ (omega arith) (omega arith) w.invariant.1 c.look_level.ensures (omega arith) c.in-Deeper.is)
 
 pub returns : goal.returns
 returns c =

@@ -2,6 +2,7 @@
 use mathlib.Core.Path.{refl, sym}
 use native.Mathlib.Numerals.{add-one}
 use native.Mathlib.Omega.{arith}
+use Rattle.std.proofs.Common.{rules}
 use Rattle.std.proofs.lemmas.List.{set-get_or}
 use Rattle.tables.specs.Words.{Fits32}
 use Rattle.scan_sweep.proofs.Arriving.{advanced_sweeping, advanced_rows}
@@ -28,8 +29,9 @@ pub returns-in_default : goal.returns-in_default
 returns-in_default g c =
     let a = c.args in
     let w = c.loop-count in
-    rw (set-get_or w.rows w.count c.index-rows-count.result, w.invariant.filled, accepted _ _ _ _ c.in_ok-check_dockets.ensures g.R.Listed.shown a.rows.now)
-    (ended_none g.R.Listed.shown _ _ _ _ a.rows.now w.count w.m w.invariant.reached (sym c.in_default.ensures) w.invariant.inside (omega arith))
+    let told = ended_none g.R.Listed.shown _ _ _ _ a.rows.now w.count w.m w.invariant.reached (sym c.in_default.ensures) w.invariant.inside (omega arith) in
+    rw (accepted _ _ _ _ c.in_ok-check_dockets.ensures g.R.Listed.shown a.rows.now)
+    (search (rules, set-get_or))
 
 pub loop-count-preserved : goal.loop-count-preserved
 loop-count-preserved g c =
@@ -52,4 +54,4 @@ returns g c =
     let a = c.args in
     let w = c.loop-count in
     rw (w.invariant.filled, accepted _ _ _ _ c.in_ok-check_dockets.ensures g.R.Listed.shown a.rows.now)
-    (ended g.R.Listed.shown _ _ _ _ a.rows.now w.count w.m w.invariant.reached w.invariant.inside (omega arith) _ c.next_docket.ensures)
+    (ended g.R.Listed.shown _ _ _ _ a.rows.now w.count w.m w.invariant.reached w.invariant.inside (omega arith) _ (search rules))

@@ -18,7 +18,7 @@ returns-clause-result_after c =
     emptied store.entries store.levels a.line.now.bytes output
     (record { slots = store.size.slots; deepest = store.size.deepest; length = 0; waiting = waiting }) (search rules) (search rules)
     ∙ ends before.entries before.levels a.line.now.bytes a.output.now (progress_in before a.line.now a.waiting) store.entries store.levels output
-    store.size.slots store.size.deepest c.run_line-printed.result waiting c.requires
+    store.size.slots store.size.deepest c.run_line-printed.result waiting (omega arith) c.requires
     (c.run_line-printed.ensures ∙ ap (λ text. line_step (line_of text) (memory_of before)) c.as_slice.ensures)
     (c.print_numbers.ensures.value, c.print_numbers.ensures.out_after)
 

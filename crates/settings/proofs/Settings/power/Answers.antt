@@ -1,5 +1,5 @@
 -- `settings::Settings::power`: a power up to T^L is at most 10^6.
-use Rattle.std.proofs.Common.{arith}
+use Rattle.std.proofs.Common.{arith, rules}
 use Rattle.settings.specs.Limits.{power}
 use Rattle.settings.proofs.Allowed.{allowed_bounds}
 use Rattle.settings.proofs.Powers.{power_fits}
@@ -12,4 +12,4 @@ pow-requires c =
 
 pub returns : goal.returns
 unfolding power
-returns c = c.pow.ensures
+returns c = search rules
